@@ -1,0 +1,6 @@
+pub mod Limits
+pub mod Places
+pub mod Refusals
+pub mod Rows
+pub mod Laws
+pub mod Buffers

@@ -1,0 +1,82 @@
+// How a row buffer is made, and that it is a source.
+ghost use mathlib.Core.Path.{_≡_};
+ghost use mathlib.Core.List.{List, [], _∷_, _++_};
+ghost use mathlib.Core.Bool.{true};
+ghost use Prim.Native.Nat.{ℕ, _<_, _≤_};
+ghost use lib.Dec.{ltb};
+ghost use lib.ListN.{length, take};
+ghost use Rattle.forms.specs.Limits.{max-rows};
+ghost use Rattle.forms.specs.Rows.{fits, few};
+ghost use Rattle.forms.specs.Laws.{buffer-laws};
+ghost use Rattle.forms.specs.Buffers.{rows-of, pushed};
+use super::RowBuffer;
+use super::super::FormSource;
+use super::super::MAX_ROWS;
+use super::super::Row;
+
+// The row itself: a row in memory has numbers of 8 bits and a label set of 64.
+fn fitting(row: Row) -> Row
+    ensures same { λ r. ⌜ r ≡ row ⌝ }
+    ensures fit { λ r. ⌜ fits r ≡ true ⌝ }
+{
+    match row {
+        Row::Void => Row::Void,
+        Row::Nothing => Row::Nothing,
+        Row::Channel(capability, payload) => Row::Channel(capability, payload),
+        Row::Element { labels, inside, following } => Row::Element { labels, inside, following },
+        Row::Union(left, right) => Row::Union(left, right),
+    }
+}
+
+impl RowBuffer {
+    // No rows.
+    pub fn empty() -> RowBuffer
+        ensures { λ r. ⌜ rows-of r ≡ [] ⌝ }
+    {
+        RowBuffer { table: [Row::Void; MAX_ROWS], count: 0 }
+    }
+
+    // One row more at the end; false, and no change, where there are 64.
+    pub fn push(&mut self, row: Row) -> bool
+        ensures taken { λ r. ⌜ r ≡ ltb (length (rows-of (now (self .entry)))) max-rows ⌝ }
+        ensures now { λ r. ⌜ rows-of (now (self .exit)) ≡ pushed (rows-of (now (self .entry))) row ⌝ }
+    {
+        if self.count >= MAX_ROWS {
+            return false;
+        }
+        self.table[self.count] = fitting(row);
+        self.count += 1;
+        true
+    }
+
+    // The rows of a slice, or none if it has more than 64.
+    pub fn new(rows: &[Row]) -> RowBuffer
+        ensures { λ r. ⌜ rows-of r ≡ few (now (rows .entry)) ⌝ }
+    {
+        let mut buffer = RowBuffer::empty();
+        if rows.len() <= MAX_ROWS {
+            for row in rows {
+                buffer.push(*row);
+            }
+        }
+        buffer
+    }
+}
+
+pub impl FormSource for RowBuffer as BufferSource {
+    ghost rows = { rows-of };
+
+    ghost lawful = { buffer-laws };
+
+    fn count(&self) -> usize {
+        self.count
+    }
+
+    fn row(&self, number: u8) -> Option<Row> {
+        if (number as usize) < self.count {
+            Some(self.table[number as usize])
+        } else {
+            None
+        }
+    }
+}
