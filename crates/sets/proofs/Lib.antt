@@ -1,0 +1,5 @@
+pub mod Words
+pub mod Tallies
+pub mod Lowest
+pub mod Members
+pub mod Nexts
