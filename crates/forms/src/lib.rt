@@ -6,6 +6,7 @@ ghost use lib.ListN.{length};
 ghost use Rattle.std.specs.shelf.Maps.{nth};
 ghost use Rattle.forms.specs.declared.Row.{Row};
 ghost use Rattle.forms.specs.Rows.{Lawful};
+
 pub mod buffer;
 pub mod makes;
 

@@ -17,7 +17,11 @@ fn raise(by: u8, own: usize, number: u8) -> u8
     requires { ⌜ by + own ≤ max-rows ⌝ }
     ensures { λ r. ⌜ r ≡ raised by own number ⌝ }
 {
-    if (number as usize) < own { number + by } else { PAST }
+    if (number as usize) < own {
+        number + by
+    } else {
+        PAST
+    }
 }
 
 fn shifted(by: u8, own: usize, row: Row) -> Row
@@ -28,7 +32,11 @@ fn shifted(by: u8, own: usize, row: Row) -> Row
         Row::Void => Row::Void,
         Row::Nothing => Row::Nothing,
         Row::Channel(capability, payload) => Row::Channel(capability, raise(by, own, payload)),
-        Row::Element { labels, inside, following } => Row::Element {
+        Row::Element {
+            labels,
+            inside,
+            following,
+        } => Row::Element {
             labels,
             inside: raise(by, own, inside),
             following: raise(by, own, following),

@@ -9,10 +9,10 @@ ghost use Rattle.forms.specs.Limits.{max-rows};
 ghost use Rattle.forms.specs.Rows.{fits, few};
 ghost use Rattle.forms.specs.Laws.{buffer-laws};
 ghost use Rattle.forms.specs.Buffers.{rows-of, pushed};
-use super::RowBuffer;
 use super::super::FormSource;
 use super::super::MAX_ROWS;
 use super::super::Row;
+use super::RowBuffer;
 
 // The row itself: a row in memory has numbers of 8 bits and a label set of 64.
 fn fitting(row: Row) -> Row
@@ -23,7 +23,15 @@ fn fitting(row: Row) -> Row
         Row::Void => Row::Void,
         Row::Nothing => Row::Nothing,
         Row::Channel(capability, payload) => Row::Channel(capability, payload),
-        Row::Element { labels, inside, following } => Row::Element { labels, inside, following },
+        Row::Element {
+            labels,
+            inside,
+            following,
+        } => Row::Element {
+            labels,
+            inside,
+            following,
+        },
         Row::Union(left, right) => Row::Union(left, right),
     }
 }
@@ -33,7 +41,10 @@ impl RowBuffer {
     pub fn empty() -> RowBuffer
         ensures { λ r. ⌜ rows-of r ≡ [] ⌝ }
     {
-        RowBuffer { table: [Row::Void; MAX_ROWS], count: 0 }
+        RowBuffer {
+            table: [Row::Void; MAX_ROWS],
+            count: 0,
+        }
     }
 
     // One row more at the end; false, and no change, where there are 64.
@@ -60,6 +71,26 @@ impl RowBuffer {
             }
         }
         buffer
+    }
+
+    // The rows of any source.
+    pub fn of<S: FormSource>(source: &S) -> RowBuffer
+        ensures { λ r. ⌜ rows-of r ≡ S·FormSource .rows (now (source .entry)) ⌝ }
+    {
+        let mut buffer = RowBuffer::empty();
+        for number in 0..source.count() {
+            if let Some(row) = source.row(number as u8) {
+                buffer.push(row);
+            }
+        }
+        buffer
+    }
+
+    // The rows as a slice.
+    pub fn rows(&self) -> &[Row]
+        ensures { λ r. ⌜ now r ≡ rows-of (now (self .entry)) ⌝ }
+    {
+        &self.table[0..self.count]
     }
 }
 
