@@ -1,0 +1,73 @@
+-- Row buffers as they are filled. Assumes nothing.
+use mathlib.Core.Path.{_≡_, sym, ap, _∙_}
+use mathlib.Core.List.{List, [], _∷_, _++_}
+use mathlib.Core.Bool.{true, false, cond}
+use mathlib.Core.Logic.{⊎-elim, _≢_}
+use Prim.Native.Nat.{ℕ, _+_, _≤_, _<_}
+use native.Mathlib.Omega.{arith}
+use lib.Dec.{ltb, leb}
+use lib.ListN.{length, getD, set, take, replicate, length-take}
+use Rattle.std.specs.shelf.Maps.{nth}
+use Rattle.std.specs.declared.option.Option.the-variants.{Some, None}
+use Rattle.std.proofs.shelf.Tests.{cases-eq, cases-lt, cond-true, cond-false, lt-ltb, le-ltb, le-leb, lt-leb}
+use Rattle.std.proofs.shelf.Lists.{take-more-set, take-more, getD-set-same, getD-set-other, getD-take, getD-replicate, getD-past}
+use Rattle.std.proofs.shelf.Maps.{nth-getD, nth-past}
+use Rattle.forms.specs.declared.Row.{Row}
+use Rattle.forms.specs.declared.Row.the-variants.{Void}
+use Rattle.forms.specs.Limits.{max-rows}
+use Rattle.forms.specs.Rows.{fits, few}
+use Rattle.forms.specs.Buffers.{pushed}
+
+-- a table of which the first n rows count
+module _ (table : List Row) (n : ℕ) (long : length table ≡ max-rows) (within : n ≤ max-rows) where
+  pub count-is : length (take n table) ≡ n
+  count-is = simp length-take (omega arith)
+
+  pub row-is : (k : ℕ) → k < n → Some (getD table k Void) ≡ nth (take n table) k
+  row-is k h = let lt : k < length (take n table) = omega (arith, count-is) in sym (nth-getD (take n table) k Void lt ∙ ap Some (getD-take n table k Void h))
+
+  pub row-none : (k : ℕ) → n ≤ k → None ≡ nth (take n table) k
+  row-none k h = sym (nth-past (take n table) k (omega (arith, count-is)))
+
+  pub is-full : max-rows ≤ n → false ≡ ltb (length (take n table)) max-rows
+  is-full h = sym (le-ltb (length (take n table)) max-rows (omega (arith, count-is)))
+
+  pub has-room : n < max-rows → true ≡ ltb (length (take n table)) max-rows
+  has-room h = sym (lt-ltb (length (take n table)) max-rows (omega (arith, count-is)))
+
+  pub not-pushed : (row : Row) → max-rows ≤ n → take n table ≡ pushed (take n table) row
+  not-pushed row h = sym (cond-false (ltb (length (take n table)) max-rows) (take n table ++ (row ∷ [])) (take n table) (sym (is-full h)))
+
+  pub is-pushed : (row row′ : Row) → row′ ≡ row → n < max-rows → take (n + 1) (set table n row′) ≡ pushed (take n table) row
+  is-pushed row row′ e h =
+      let lt : n < length table = omega arith in
+      take-more-set table n row′ lt ∙ ap (λ x. take n table ++ (x ∷ [])) e
+      ∙ sym (cond-true (ltb (length (take n table)) max-rows) (take n table ++ (row ∷ [])) (take n table) (sym (has-room h)))
+
+  pub all-fit : (row : Row) → n < max-rows → fits row ≡ true → ((k : ℕ) → fits (getD table k Void) ≡ true) → (k : ℕ) → fits (getD (set table n row) k Void) ≡ true
+  all-fit row h here fit k = ⊎-elim
+      (λ e. let lt : n < length table = omega arith in ap fits (ap (λ j. getD (set table n row) j Void) e ∙ getD-set-same table n row Void lt) ∙ here)
+      (λ ne. ap fits (getD-set-other table n k row Void ne) ∙ fit k)
+      (cases-eq k n)
+
+-- one row more where there is room
+pub pushed-is : (rows : List Row) (row : Row) → length rows < max-rows → pushed rows row ≡ rows ++ (row ∷ [])
+pushed-is rows row h = cond-true (ltb (length rows) max-rows) (rows ++ (row ∷ [])) rows (lt-ltb (length rows) max-rows h)
+
+-- the first i rows of a list are copied: with the next one pushed, the first i + 1 are
+pub copied-more : (rows held : List Row) (i : ℕ) (row : Row) → i < length rows → length rows ≤ max-rows → held ≡ take i rows → row ≡ getD rows i Void → pushed held row ≡ take (i + 1) rows
+copied-more rows held i row h le e is =
+    let l : length held < max-rows = omega (arith, ap length e, length-take i rows) in
+    pushed-is held row l ∙ ap (λ x. x ++ (row ∷ [])) e ∙ ap (λ x. take i rows ++ (x ∷ [])) is ∙ sym (take-more rows i Void h)
+
+pub few-is : (rows : List Row) → length rows ≤ max-rows → few rows ≡ rows
+few-is rows h = cond-true (leb (length rows) max-rows) rows [] (le-leb (length rows) max-rows h)
+
+pub few-none : (rows : List Row) → max-rows < length rows → few rows ≡ []
+few-none rows h = cond-false (leb (length rows) max-rows) rows [] (lt-leb (length rows) max-rows h)
+
+pub all-void : (k : ℕ) → getD (replicate max-rows Void) k Void ≡ Void
+all-void k = ⊎-elim
+    (λ lt. getD-replicate max-rows k Void Void lt)
+    (λ le. getD-past (replicate max-rows Void) k Void le)
+    (cases-lt k max-rows)
