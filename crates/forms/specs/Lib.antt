@@ -4,3 +4,4 @@ pub mod Refusals
 pub mod Rows
 pub mod Laws
 pub mod Buffers
+pub mod Schema

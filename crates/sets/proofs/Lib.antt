@@ -3,3 +3,4 @@ pub mod Tallies
 pub mod Lowest
 pub mod Members
 pub mod Nexts
+pub mod Wider

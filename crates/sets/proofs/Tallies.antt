@@ -18,3 +18,7 @@ module _ (f g : ℕ → Bool) (within : (k : ℕ) → f k ≡ true → g k ≡ t
       (λ here. let p = tally-part k in rw (← here) (rw (t, e) (omega arith)))
       (λ there. let p = tally-fewer k n (omega arith) t e in let q = within n in grind arith)
       (cases-eq k n)
+
+pub tally-le : (f : ℕ → Bool) (n : ℕ) → tally f n ≤ n
+tally-le f zero = omega arith
+tally-le f (suc n) = let h = tally-le f n in grind arith

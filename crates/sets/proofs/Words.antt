@@ -2,12 +2,12 @@
 use mathlib.Core.Path.{_≡_, refl, sym, ap, subst, _∙_}
 use mathlib.Core.List.{List, [], _∷_}
 use mathlib.Core.Logic.{_⊎_, inl, inr, ⊎-elim, _≢_}
-use mathlib.Core.Bool.{Bool, true, false, cond, _||_}
+use mathlib.Core.Bool.{Bool, true, false, cond, _||_, _&&_}
 use Prim.Native.Nat.{ℕ, zero, suc, _+_, _-_, _*_, _/_, _%_, _^_, _≤_, _<_}
 use native.Mathlib.Nat.{pow-suc, div-eq-of-lt, mul-mod-left}
 use native.Mathlib.Numerals.{add-one}
 use native.Mathlib.Omega.{arith}
-use lib.Bits.{bitOr, or-shr, or-mod, bitXor, xor-shr, xor-mod}
+use lib.Bits.{bitAnd, and-shr, and-mod, bitOr, or-shr, or-mod, bitXor, xor-shr, xor-mod}
 use lib.Dec.{eqb}
 use lib.Pow.{pow-add, pow-pos, pow-lt, shl-shr}
 use lib.ListN.{length, getD, set}
@@ -30,6 +30,15 @@ or-low a b = ap (λ x. eqb x 1) (or-mod a b 1) ∙ or-bits (a % 2) (b % 2) (half
 
 pub bit-or : (a b k : ℕ) → bit (bitOr a b) k ≡ (bit a k || bit b k)
 bit-or a b k = ap (λ x. eqb (x % 2) 1) (or-shr a b k) ∙ or-low (a / 2 ^ k) (b / 2 ^ k)
+
+and-bits : (r s : ℕ) → (r ≡ 0) ⊎ (r ≡ 1) → (s ≡ 0) ⊎ (s ≡ 1) → eqb (bitAnd r s) 1 ≡ (eqb r 1 && eqb s 1)
+and-bits r s p q =
+    let F : ℕ → ℕ → Type 0 = λ x y. eqb (bitAnd x y) 1 ≡ (eqb x 1 && eqb y 1) in
+    let at : (x : ℕ) → F x 0 → F x 1 → F x s = λ x u v. ⊎-elim (λ e. subst (F x) (sym e) u) (λ e. subst (F x) (sym e) v) q in
+    ⊎-elim (λ e. subst (λ x. F x s) (sym e) (at 0 refl refl)) (λ e. subst (λ x. F x s) (sym e) (at 1 refl refl)) p
+
+pub bit-and : (a b k : ℕ) → bit (bitAnd a b) k ≡ (bit a k && bit b k)
+bit-and a b k = ap (λ x. eqb (x % 2) 1) (and-shr a b k) ∙ ap (λ x. eqb x 1) (and-mod (a / 2 ^ k) (b / 2 ^ k) 1) ∙ and-bits (a / 2 ^ k % 2) (b / 2 ^ k % 2) (half (a / 2 ^ k)) (half (b / 2 ^ k))
 
 even-pow : (d : ℕ) → 2 ^ (d + 1) % 2 ≡ 0
 even-pow d = let e : 2 ^ (d + 1) ≡ 2 ^ d * 2 = pow-add 2 d 1 in omega (arith, e)

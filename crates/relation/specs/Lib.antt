@@ -1,0 +1,5 @@
+pub mod Cells
+pub mod Barren
+pub mod Admission
+pub mod Faults
+pub mod Judged
