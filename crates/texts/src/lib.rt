@@ -1,0 +1,5 @@
+// Row text: rows read from bytes, and written to bytes.
+mod kinds;
+
+// The most bytes that a row text has.
+pub const MAX_TEXT: usize = 1600;
