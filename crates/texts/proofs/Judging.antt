@@ -23,7 +23,7 @@ use Rattle.texts.specs.RowText.Judged.{is-long, is-wrong, is-more, is-right}
 use Rattle.texts.proofs.Findings.{never}
 use Rattle.texts.proofs.Numbers.{Figures, figures, length-hexadecimal}
 use Rattle.texts.proofs.Numbers.Figures.{one, two}
-use Rattle.texts.proofs.Fields.{row-line, line-row, fields-one, rows-line-one, Right-line, line-or-wrong, fewer-fields}
+use Rattle.texts.proofs.RightLines.{row-line, line-row, fields-one, rows-line-one, Right-line, line-or-wrong, fewer-fields}
 
 -- LENGTH
 figures-short : {n : ℕ} {f : List ℕ} → Figures n f → length f ≤ 2

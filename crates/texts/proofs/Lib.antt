@@ -1,5 +1,6 @@
 pub mod Findings
 pub mod Numbers
-pub mod Fields
+pub mod RightLines
 pub mod Judging
-pub mod Writing
+pub mod Outcomes
+pub mod Digits

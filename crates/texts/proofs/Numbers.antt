@@ -43,15 +43,16 @@ hex-digit-is d h = ⊎-elim (λ s. rw (lt-ltb d 10 s) (inl (omega arith, omega a
 pub hex-digit-one : (c d : ℕ) → c < 16 → d < 16 → hex-digit c ≡ hex-digit d → c ≡ d
 hex-digit-one c d h g e = grind (arith, tells)
 
-hex-digit-value : (b : ℕ) → HexDigit b → (d : ℕ) × (d < 16) × (b ≡ hex-digit d)
+pub hex-digit-value : (b : ℕ) → HexDigit b → (d : ℕ) × (d < 16) × (b ≡ hex-digit d)
 hex-digit-value b (inl (l, h)) = (b - 48, omega arith, let s : b - 48 < 10 = omega arith in rw (lt-ltb (b - 48) 10 s) (omega arith))
 hex-digit-value b (inr (l, h)) = (b - 87, omega arith, let s : 10 ≤ b - 87 = omega arith in rw (le-ltb (b - 87) 10 s) (omega arith))
 
 pub length-hexadecimal : (k n : ℕ) → length (hexadecimal k n) ≡ k
+unfolding hexadecimal
 length-hexadecimal zero n = refl
 length-hexadecimal (suc k) n = ap suc (length-hexadecimal k (n % 16 ^ k))
 
-sixteen : (k : ℕ) → 0 < 16 ^ k
+pub sixteen : (k : ℕ) → 0 < 16 ^ k
 sixteen zero = omega arith
 sixteen (suc k) = let h = sixteen k in rw pow-suc (omega arith)
 
@@ -60,10 +61,12 @@ first-digit : (k n : ℕ) → n < 16 ^ suc k → n / 16 ^ k < 16
 first-digit k n h = div-below n (16 ^ k) 16 (sixteen k) (omega (arith, pow-suc 16 k))
 
 pub hexadecimal-is : (k n : ℕ) → n < 16 ^ k → All HexDigit (hexadecimal k n)
+unfolding hexadecimal
 hexadecimal-is zero n h = tt
 hexadecimal-is (suc k) n h = (hex-digit-is (n / 16 ^ k) (first-digit k n h), hexadecimal-is k (n % 16 ^ k) (mod-lt n (sixteen k)))
 
 pub hexadecimal-one : (k m n : ℕ) → m < 16 ^ k → n < 16 ^ k → hexadecimal k m ≡ hexadecimal k n → m ≡ n
+unfolding hexadecimal
 hexadecimal-one zero m n h g e = omega arith
 hexadecimal-one (suc k) m n h g e =
     let d : m / 16 ^ k ≡ n / 16 ^ k = hex-digit-one (m / 16 ^ k) (n / 16 ^ k) (first-digit k m h) (first-digit k n g) (cc) in
@@ -72,6 +75,7 @@ hexadecimal-one (suc k) m n h g e =
 
 -- every text of k hexadecimal digits is that of a number
 pub hexadecimal-value : (f : List ℕ) → All HexDigit f → (n : ℕ) × (n < 16 ^ length f) × (f ≡ hexadecimal (length f) n)
+unfolding hexadecimal
 hexadecimal-value [] all = (0, omega arith, refl)
 hexadecimal-value (b ∷ f) all =
     let (d, d<, e) = hex-digit-value b (all .0) in

@@ -1,3 +1,4 @@
 pub mod Limits
 pub mod RowText
+pub mod Reading
 pub mod Writing

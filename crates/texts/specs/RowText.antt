@@ -40,7 +40,7 @@ abbrev pub hex-digit : ℕ → ℕ
 hex-digit d = cond (ltb d 10) (48 + d) (87 + d)
 
 -- the k hexadecimal digits of a number below 16 ^ k
-abbrev pub hexadecimal : ℕ → ℕ → List ℕ
+unfoldable pub hexadecimal : ℕ → ℕ → List ℕ
 hexadecimal zero n = []
 hexadecimal (suc k) n = hex-digit (n / 16 ^ k) ∷ hexadecimal k (n % 16 ^ k)
 

@@ -1,5 +1,6 @@
 // Row text: rows read from bytes, and written to bytes.
 mod kinds;
+mod values;
 
 // The most bytes that a row text has.
 pub const MAX_TEXT: usize = 1600;
