@@ -4,3 +4,5 @@ pub mod RightLines
 pub mod Judging
 pub mod Outcomes
 pub mod Digits
+pub mod Stops
+pub mod LineSteps

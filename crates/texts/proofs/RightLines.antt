@@ -65,11 +65,11 @@ stop-is : (f : List ℕ) (e : ℕ) (rest : List ℕ) → Plain f → stops e ≡
 stop-is [] e rest plain s = rw s
 stop-is (b ∷ f) e rest plain s = rw (plain .0) (stop-is f e rest (plain .1) s)
 
-parted : (bytes : List ℕ) → field bytes ++ from-stop bytes ≡ bytes
+pub parted : (bytes : List ℕ) → field bytes ++ from-stop bytes ≡ bytes
 parted [] = refl
 parted (b ∷ bs) = let h = parted bs in elim (stops b) as (λ t. cond t [] (b ∷ field bs) ++ cond t (b ∷ bs) (from-stop bs) ≡ b ∷ bs) [ true ↦ refl | false ↦ ap (λ g. b ∷ g) h ]
 
-end-stops : (f : ℕ) → stops (end-of f) ≡ true
+pub end-stops : (f : ℕ) → stops (end-of f) ≡ true
 end-stops f = grind (arith, tells)
 
 -- for code: the field is the part before the first stop, or all that is left
@@ -91,10 +91,10 @@ right-bytes : (k : Kind) (f : ℕ) {bytes rest : List ℕ} → RightField k f by
 right-bytes k f {bytes} {rest} (a, e) = cc (parted bytes)
 
 -- LINES. A line of these four fields:
-abbrev line : List ℕ → List ℕ → List ℕ → List ℕ → List ℕ → List ℕ
+abbrev pub line : List ℕ → List ℕ → List ℕ → List ℕ → List ℕ → List ℕ
 line f₀ f₁ f₂ f₃ rest = f₀ ++ (44 ∷ (f₁ ++ (44 ∷ (f₂ ++ (44 ∷ (f₃ ++ (10 ∷ rest)))))))
 
-spelled-line : (r : Row) (rest : List ℕ) → spelled-row r ++ rest ≡ line (letter (kind r) ∷ []) (field-1 r) (field-2 r) (field-3 r) rest
+pub spelled-line : (r : Row) (rest : List ℕ) → spelled-row r ++ rest ≡ line (letter (kind r) ∷ []) (field-1 r) (field-2 r) (field-3 r) rest
 spelled-line r rest = simp append-assoc
 
 abbrev Fields-allowed : Kind → List ℕ → List ℕ → List ℕ → List ℕ → Type 0
@@ -154,7 +154,7 @@ letter-one k k′ e = sym (back k) ∙ (ap kind-of e ∙ back k′)
     back element = refl
     back union = refl
 
-letter-first : (k : Kind) → getD (contents k) 0 no-bytes ≡ the-letter k
+pub letter-first : (k : Kind) → getD (contents k) 0 no-bytes ≡ the-letter k
 letter-first void = refl
 letter-first nothing = refl
 letter-first channel = refl
@@ -284,6 +284,10 @@ kind-or-not bytes = ⊎-elim inl (λ v. ⊎-elim inl (λ n. ⊎-elim inl (λ c. 
     none v n c e u element = e
     none v n c e u union = u
 
+-- the first fields are right, and the next one is not
+pub first-wrong : (k : Kind) (f : ℕ) → suc f < 4 → (bytes rest : List ℕ) → RightFields k (suc f) bytes rest → ((rest′ : List ℕ) → RightField k (suc f) rest rest′ → ⊥) → FirstWrong (suc f) bytes
+first-wrong k f h bytes rest right none = (h, (k, rest, right), λ (k′, rest′, (b, right′, r)). let (ek, eb) = fields-one f k k′ bytes rest b right right′ in none rest′ (subst₂ (λ x y. RightField x (suc f) y rest′) (sym ek) (sym eb) r))
+
 -- a line has a first wrong field, or it is right
 abbrev pub Right-line : List ℕ → Type 0
 Right-line bytes = (k : Kind) × (rest : List ℕ) × RightFields k 4 bytes rest
@@ -297,7 +301,7 @@ line-or-wrong bytes = ⊎-elim
     next : (k : Kind) (f : ℕ) → suc f < 4 → (rest : List ℕ) → RightFields k (suc f) bytes rest → ((f : ℕ) × FirstWrong f bytes) ⊎ ((rest : List ℕ) × RightFields k (suc (suc f)) bytes rest)
     next k f h rest right = ⊎-elim
         (λ (rest′, r). inr (rest′, (rest, right, r)))
-        (λ nr. inl (suc f, (h, (k, rest, right), λ (k′, rest′, (b, right′, r)). let (ek, eb) = fields-one f k k′ bytes rest b right right′ in nr (rest′, subst₂ (λ x y. RightField x (suc f) y rest′) (sym ek) (sym eb) r))))
+        (λ nr. inl (suc f, first-wrong k f h bytes rest right (λ rest′ r. nr (rest′, r))))
         (field-or-not k (suc f) rest)
 
 -- fewer fields of a right line

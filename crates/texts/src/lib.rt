@@ -1,5 +1,7 @@
 // Row text: rows read from bytes, and written to bytes.
+mod fields;
 mod kinds;
+mod lines;
 mod values;
 
 // The most bytes that a row text has.
