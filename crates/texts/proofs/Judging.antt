@@ -90,9 +90,14 @@ lines-more : (n : ℕ) (k : Kind) (bytes mid rest : List ℕ) → RightFields k 
 lines-more zero k bytes mid rest fs e = (bytes, k, refl, subst (RightFields k 4 bytes) e fs)
 lines-more (suc n) k bytes mid rest fs (b, k′, ls, fs′) = (b, k′, lines-more n k bytes mid b fs ls, fs′)
 
+-- the lines of rows, and what follows them
+pub lines-of-rows : (rows : List Row) → All Proper rows → (rest : List ℕ) → RightLines (length rows) (spelled rows ++ rest) rest
+lines-of-rows [] all rest = refl
+lines-of-rows (r ∷ rows) all rest = rw (append-assoc (spelled-row r) (spelled rows) rest)
+    (lines-more (length rows) (kind r) (spelled-row r ++ (spelled rows ++ rest)) (spelled rows ++ rest) rest (row-line r (all .0) (spelled rows ++ rest)) (lines-of-rows rows (all .1) rest))
+
 rows-lines : (rows : List Row) → All Proper rows → RightLines (length rows) (spelled rows) []
-rows-lines [] all = refl
-rows-lines (r ∷ rows) all = lines-more (length rows) (kind r) (spelled-row r ++ spelled rows) (spelled rows) [] (row-line r (all .0) (spelled rows)) (rows-lines rows (all .1))
+rows-lines rows all = subst (λ t. RightLines (length rows) t []) (append-nil (spelled rows)) (lines-of-rows rows all [])
 
 rows-one : (rows rows′ : List Row) → All Proper rows → All Proper rows′ → spelled rows ≡ spelled rows′ → rows ≡ rows′
 rows-one [] [] all all′ e = refl
@@ -161,6 +166,9 @@ module _ (bytes : List ℕ) where
   same (is-right {rows} s few ls all e) (is-wrong {n} {f} b rest s′ h′ ls′ w′) = absurd (wrong-not-right (length rows) n f b rest ls′ w′ ls)
   same (is-right {rows} s few ls all e) (is-more b rest s′ ls′) = absurd (omega (arith, before-end (length rows) max-rows b rest ls ls′))
   same (is-right {rows} s few ls all e) (is-right {rows = rows′} s′ few′ ls′ all′ e′) = ap gives (rows-one rows′ rows all′ all (sym e′ ∙ e))
+
+pub one-outcome : (bytes : List ℕ) {o p : Outcome (List Row)} → Judged bytes o → Judged bytes p → p ≡ o
+one-outcome = same
 
 pub judgement-is-one : Judgement-is-one
 judgement-is-one bytes = let (o, j) = judged bytes in (o, j, λ p j′. same bytes j j′)

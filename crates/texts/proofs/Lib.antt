@@ -6,3 +6,4 @@ pub mod Outcomes
 pub mod Digits
 pub mod Stops
 pub mod LineSteps
+pub mod TextSteps
