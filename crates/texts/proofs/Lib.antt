@@ -7,3 +7,6 @@ pub mod Digits
 pub mod Stops
 pub mod LineSteps
 pub mod TextSteps
+pub mod Laying
+pub mod Measures
+pub mod Writes

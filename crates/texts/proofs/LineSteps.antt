@@ -88,9 +88,13 @@ pub kind-right : (k : Kind) (bytes rest : List ℕ) → OfKind (field bytes) k �
 kind-right k bytes rest e stop = (bytes, refl, (subst (λ x. Allowed x (field bytes)) (sym (letter-first k)) e, stop))
 
 pub kind-wrong : (bytes : List ℕ) (g : ℕ) → (g ≡ 0) × ((k : Kind) (rest : List ℕ) → OfKind (field bytes) k → from-stop bytes ≡ end-of 0 ∷ rest → ⊥) → FirstWrong g bytes
-kind-wrong bytes g (eg, none) = subst (λ x. FirstWrong x bytes) (sym eg) (omega arith, (void, bytes, refl), λ (k, rest, (b, e, (a, stop))).
-    let l : field b ≡ letter k ∷ [] = subst (λ x. Allowed x (field b)) (letter-first k) a in
-    none k rest (cc) (cc))
+kind-wrong bytes g (eg, none) = subst (λ x. FirstWrong x bytes) (sym eg) (
+  omega arith,
+  (void, bytes, refl),
+  λ (k, rest, (b, e, (a, stop))).
+      let l : field b ≡ letter k ∷ [] = subst (λ x. Allowed x (field b)) (letter-first k) a in
+      none k rest (cc) (cc),
+)
 
 pub whole-line : (r : Row) (k : Kind) (bytes first rest : List ℕ) → OfKind (field bytes) k → from-stop bytes ≡ 44 ∷ first → kind r ≡ k → first ≡ field-1 r ++ (44 ∷ (field-2 r ++ (44 ∷ (field-3 r ++ (10 ∷ rest))))) → bytes ≡ spelled-row r ++ rest
 whole-line r k bytes first rest e stop is fields = field-bytes bytes (letter k ∷ []) first 44 e stop ∙ cc (spelled-line r rest)

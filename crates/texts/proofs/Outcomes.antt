@@ -26,7 +26,7 @@ use Rattle.texts.proofs.Judging.{right-is-spelled}
 below-or-not : (m n : ℕ) → Decided (m < n)
 below-or-not m n = ⊎-elim inl (λ l. inr (λ h. omega arith)) (cases-lt m n)
 
-numbered-or-not : (r : Row) → Decided (NumbersBelow max-rows r)
+pub numbered-or-not : (r : Row) → Decided (NumbersBelow max-rows r)
 numbered-or-not Void = inl tt
 numbered-or-not Nothing = inl tt
 numbered-or-not (Channel c s) = below-or-not s max-rows
@@ -48,7 +48,7 @@ fault-or-not {X} xs P test k = ⊎-elim
     entry (x ∷ xs) zero = inl (x, refl)
     entry (x ∷ xs) (suc k) = entry xs k
 
-nth-below : {X : Type 0} (xs : List X) (k : ℕ) {x : X} → nth xs k ≡ Some x → k < length xs
+pub nth-below : {X : Type 0} (xs : List X) (k : ℕ) {x : X} → nth xs k ≡ Some x → k < length xs
 nth-below [] k e = never (cc)
 nth-below (y ∷ xs) zero e = omega arith
 nth-below (y ∷ xs) (suc k) e = omega (arith, nth-below xs k e)

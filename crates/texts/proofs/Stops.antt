@@ -29,7 +29,7 @@ no-stop-more bytes start end going l s =
     let n : end + 1 - start ≡ end - start + 1 = omega (arith, going .from) in
     let g : getD (drop start bytes) (end - start) 0 ≡ b = getD-drop start bytes (end - start) 0 ∙ ap (λ i. getD bytes i 0) (omega (arith, going .from)) in
     let t : take (end + 1 - start) (drop start bytes) ≡ take (end - start) (drop start bytes) ++ (b ∷ []) =
-        ap (λ i. take i (drop start bytes)) n ∙ (take-more (drop start bytes) (end - start) 0 (omega (arith, going .from, length-drop start bytes)) ∙ ap (λ x. take (end - start) (drop start bytes) ++ (x ∷ [])) g) in
+    ap (λ i. take i (drop start bytes)) n ∙ (take-more (drop start bytes) (end - start) 0 (omega (arith, going .from, length-drop start bytes)) ∙ ap (λ x. take (end - start) (drop start bytes) ++ (x ∷ [])) g) in
     let f : field (drop end bytes) ≡ b ∷ field (drop (end + 1) bytes) = ap field d ∙ (rw s refl) in
     let r : from-stop (drop end bytes) ≡ from-stop (drop (end + 1) bytes) = ap from-stop d ∙ (rw s refl) in
     record {

@@ -2,10 +2,11 @@
 use mathlib.Core.Path.{_≡_}
 use mathlib.Core.List.{List, [], _∷_}
 use Prim.Native.Nat.{ℕ, _≤_}
-use lib.ListN.{length}
+use lib.ListN.{length, take, drop}
 use Rattle.std.specs.declared.result.Result.{Result}
 use Rattle.std.specs.declared.result.Result.the-variants.{Ok, Err}
 use Rattle.forms.specs.declared.Row.{Row}
+use Rattle.forms.specs.Places.{Nowhere, Lowest}
 use Rattle.forms.specs.Refusals.{Refusal, Outcome}
 use Rattle.forms.specs.Refusals.Refusal.{refusal}
 use Rattle.forms.specs.Refusals.Outcome.{refuses, gives}
@@ -15,7 +16,8 @@ use Rattle.texts.specs.declared.TextFault.{TextFault}
 use Rattle.texts.specs.declared.TextFault.the-variants.{TooLong, WrongLine, TooManyLines}
 use Rattle.texts.specs.declared.RowsFault.{RowsFault}
 use Rattle.texts.specs.declared.RowsFault.the-variants.{NumberOver, NoRoom}
-use Rattle.texts.specs.Writing.{WritesRows}
+use Rattle.texts.specs.RowText.{spelled, Judged}
+use Rattle.texts.specs.Writing.{NumberOver as over, WritesRows}
 
 abbrev pub text-refusal : TextFault → Refusal
 text-refusal TooLong = refusal 1 []
@@ -44,3 +46,18 @@ WritesBack bytes (Err e) = Unit {0}
 abbrev pub spelled-by : Outcome (List Row) → List Row
 spelled-by (refuses f) = []
 spelled-by (gives rows) = rows
+
+-- the length of the rows' text, or the lowest row with a number over 63
+abbrev pub TotalFound : List Row → Result ℕ RowsFault → Type 0
+TotalFound rows (Ok n) = Nowhere (over rows) × (n ≡ length (spelled rows))
+TotalFound rows (Err e) = (k : ℕ) × (e ≡ NumberOver k) × Lowest (over rows) k
+
+-- what writing rows answers, and what the buffer then holds: the text and the rest as it was, or all as it was
+abbrev pub RowsWritten : List Row → List ℕ → List ℕ → Result ℕ RowsFault → Type 0
+RowsWritten rows before after (Ok n) = WritesRows (length before) rows (gives (take n after)) × (n ≡ length (take n after)) × (drop n after ≡ drop n before)
+RowsWritten rows before after (Err e) = WritesRows (length before) rows (refuses (rows-refusal e)) × (after ≡ before)
+
+-- what is written means the rows
+abbrev pub ReadsBack : List Row → List ℕ → Result ℕ RowsFault → Type 0
+ReadsBack rows after (Ok n) = Judged (take n after) (gives rows)
+ReadsBack rows after (Err e) = Unit {0}

@@ -4,11 +4,13 @@ ghost use Rattle.forms.specs.Refusals.{number};
 ghost use Rattle.texts.specs.Faults.{text-refusal, rows-refusal};
 use forms::buffer::RowBuffer;
 
+mod bytes;
 mod fields;
 mod kinds;
 mod lines;
 pub mod reading;
 mod values;
+pub mod writing;
 
 // The most bytes that a row text has.
 pub const MAX_TEXT: usize = 1600;
@@ -25,10 +27,7 @@ pub enum TextFault {
     // more than 1,600 bytes
     TooLong,
     // the first wrong field of the first wrong line
-    WrongLine {
-        line: usize,
-        field: usize,
-    },
+    WrongLine { line: usize, field: usize },
     // a 65th line begins
     TooManyLines,
 }
@@ -50,9 +49,7 @@ impl TextFault {
 #[derive(Clone, Copy, PartialEq, Eq, Debug)]
 pub enum RowsFault {
     // the lowest row with a number over 63
-    NumberOver {
-        row: usize,
-    },
+    NumberOver { row: usize },
     // the text is longer than the buffer
     NoRoom,
 }

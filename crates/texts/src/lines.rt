@@ -37,7 +37,14 @@ fn element_fields(text: &[u8], start: usize) -> Result<(Row, usize), usize>
     let (labels, second) = fields::read(text, start, 1)?;
     let (inside, third) = fields::read(text, second, 2)?;
     let (following, next) = fields::read(text, third, 3)?;
-    Ok((Row::Element { labels, inside, following }, next))
+    Ok((
+        Row::Element {
+            labels,
+            inside,
+            following,
+        },
+        next,
+    ))
 }
 
 // Fields 1 to 3 of a union row.

@@ -9,13 +9,17 @@ use forms::Capability;
 use forms::MAX_ROWS;
 
 // How many hexadecimal digits a label set has.
-const LABEL_DIGITS: usize = 16;
+pub const LABEL_DIGITS: usize = 16;
 
 // The one byte of a field that has just one.
 fn single(field: &[u8]) -> Option<u8>
     ensures { λ r. ⌜ Told (λ b. now (field .entry) ≡ b ∷ []) r ⌝ }
 {
-    if field.len() == 1 { Some(field[0]) } else { None }
+    if field.len() == 1 {
+        Some(field[0])
+    } else {
+        None
+    }
 }
 
 fn kind_letter(byte: u8) -> Option<Kind>
@@ -73,7 +77,11 @@ pub fn number(field: &[u8]) -> Option<u8>
             let tens = digit(field[0])?;
             let ones = digit(field[1])?;
             let value = tens * 10 + ones;
-            if tens > 0 && (value as usize) < MAX_ROWS { Some(value) } else { None }
+            if tens > 0 && (value as usize) < MAX_ROWS {
+                Some(value)
+            } else {
+                None
+            }
         }
         _ => None,
     }

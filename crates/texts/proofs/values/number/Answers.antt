@@ -25,8 +25,8 @@ returns-else-tens-gt0 c = not-two (c .args .field .now) (c .in-2 .is) (λ v h (_
     let (t, et) = c .in-Continue-tens .ensures tt in
     let (o, eo) = c .in-Continue-ones .ensures tt in
     elim (c .else-tens-gt0 .came) [
-      else-tens-gt0·by·then-tens-gt0·else-value-lt-MAX-ROWS w ↦ omega (arith, w .if-value-lt-MAX-ROWS .left)
-    | else-tens-gt0·by·else-tens-gt0 w ↦ omega (arith, w .if-tens-gt0 .left)
+      | else-tens-gt0·by·then-tens-gt0·else-value-lt-MAX-ROWS w ↦ omega (arith, w .if-value-lt-MAX-ROWS .left)
+      | else-tens-gt0·by·else-tens-gt0 w ↦ omega (arith, w .if-tens-gt0 .left)
     ])
 
 pub returns-in-rest : need.returns-in-rest
