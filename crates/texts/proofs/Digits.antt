@@ -2,7 +2,7 @@
 use mathlib.Core.Path.{_≡_, refl, ap, sym, subst, _∙_}
 use mathlib.Core.List.{List, [], _∷_, _++_}
 use mathlib.Core.Logic.{_⊎_, inl, inr, ⊎-elim}
-use Prim.Native.Nat.{ℕ, zero, suc, _+_, _*_, _/_, _%_, _^_, _<_, _≤_}
+use Prim.Native.Nat.{ℕ, zero, suc, _+_, _*_, _/_, _%_, _^_, _<_}
 use native.Mathlib.Omega.{arith}
 use native.Mathlib.Nat.{pow-suc, mod-lt, mul-assoc, div-add-mod', div-one, pow-le-pow-right}
 use native.Mathlib.Numerals.{add-one}
@@ -14,7 +14,7 @@ use Rattle.std.proofs.shelf.Lists.{take-more, take-all, nil-from-length}
 use Rattle.std.proofs.shelf.Elements.{all-getD}
 use Rattle.std.specs.declared.option.Option.{Option}
 use Rattle.std.specs.declared.option.Option.the-variants.{Some, None}
-use Rattle.forms.specs.Limits.{max-rows, label-count}
+use Rattle.forms.specs.Limits.{max-rows}
 use Rattle.texts.specs.Limits.{label-digits}
 use Rattle.texts.specs.RowText.{HexDigit, hex-digit, hexadecimal}
 use Rattle.texts.specs.Reading.{Told, OfNumber, OfLabels}

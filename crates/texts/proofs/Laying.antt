@@ -3,7 +3,7 @@ use mathlib.Core.Path.{_≡_, refl, ap, sym, subst, _∙_}
 use mathlib.Core.List.{List, [], _∷_, _++_}
 use Prim.Native.Nat.{ℕ, zero, suc, _+_, _-_, _*_, _/_, _%_, _^_, _<_, _≤_}
 use native.Mathlib.Omega.{arith}
-use native.Mathlib.Nat.{add-zero, pow-suc, mod-eq-of-lt}
+use native.Mathlib.Nat.{add-zero, pow-suc}
 use lib.ListN.{length, set, take, drop}
 use Rattle.std.specs.Written.{decimal}
 use Rattle.std.proofs.shelf.Decimals.{decimal-digit, decimal-step}
@@ -52,9 +52,6 @@ pub record Left (labels : ℕ) (old now : List ℕ) (place next left : ℕ) : Ty
   pub few : left ≤ label-digits
   pub so-far : next + left ≡ place + label-digits
   pub holds : laid now next (hexadecimal left (labels % 16 ^ left)) ≡ laid old place (hexadecimal label-digits labels)
-
-pub left-none : (labels : ℕ) (old : List ℕ) (place : ℕ) → labels < 2 ^ 64 → Left labels old old place place label-digits
-left-none labels old place h = record { few = omega arith; so-far = refl; holds = ap (λ n. laid old place (hexadecimal label-digits n)) (mod-eq-of-lt {n = labels} {m = 16 ^ label-digits} h) }
 
 sixteen-is : (k : ℕ) → 16 ^ k ≡ 2 ^ (4 * k)
 sixteen-is zero = refl

@@ -7,13 +7,11 @@ use lib.ListN.{length, getD, drop}
 use Rattle.std.specs.shelf.Lists.{All}
 use Rattle.std.specs.declared.result.Result.{Result}
 use Rattle.std.specs.declared.result.Result.the-variants.{Ok, Err}
-use Rattle.std.specs.Results.{ErrBy}
 use Rattle.forms.specs.declared.Row.{Row}
-use Rattle.forms.specs.declared.Capability.{Capability}
 use Rattle.texts.specs.declared.kinds.Kind.{Kind}
 use Rattle.texts.specs.declared.kinds.Kind.the-variants.{Void as void}
 use Rattle.texts.specs.Limits.{label-digits}
-use Rattle.texts.specs.RowText.{letter, HexDigit, kind, field-1, field-2, field-3, spelled-row, Content, Allowed, contents, field, from-stop, end-of, RightField, RightFields, FirstWrong}
+use Rattle.texts.specs.RowText.{letter, HexDigit, kind, field-1, field-2, field-3, spelled-row, Content, Allowed, contents, field, from-stop, end-of, RightFields, FirstWrong}
 use Rattle.texts.specs.RowText.Content.{the-letter, a-capability, a-label-set, a-number, no-bytes}
 use Rattle.texts.specs.Reading.{OfKind, OfCapability, OfLabels, OfNumber, OfBlank, BlanksRead, FieldsRead, LineRead}
 use Rattle.texts.proofs.Numbers.{length-hexadecimal, hexadecimal-is, hexadecimal-value}

@@ -17,7 +17,7 @@ use Rattle.forms.specs.Refusals.{Outcome}
 use Rattle.forms.specs.Refusals.Refusal.{refusal}
 use Rattle.forms.specs.Refusals.Outcome.{refuses, gives}
 use Rattle.forms.specs.Rows.{NumbersBelow, Labelled}
-use Rattle.texts.specs.RowText.{spelled, Proper, Judged}
+use Rattle.texts.specs.RowText.{spelled, Proper}
 use Rattle.texts.specs.Writing.{NumberOver, WritesRows, Writing-rows-is-one, Written-rows-are-right, Right-rows-are-written}
 use Rattle.texts.specs.Writing.WritesRows.{is-over, is-long, is-written}
 use Rattle.texts.proofs.Findings.{never, Decided, both-or-not, least-below, lowest-one}

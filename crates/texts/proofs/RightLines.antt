@@ -5,7 +5,7 @@ use mathlib.Core.Bool.{true, false, cond}
 use mathlib.Core.Logic.{_⊎_, inl, inr, ⊎-elim}
 use Prim.Native.Nat.{ℕ, zero, suc, _<_, _≤_}
 use native.Mathlib.Omega.{arith}
-use lib.ListN.{length, getD, take, drop}
+use lib.ListN.{length, getD}
 use lib.Dec.{eqb}
 use Rattle.std.specs.shelf.Lists.{All}
 use Rattle.std.proofs.shelf.Lists.{append-assoc}
@@ -71,15 +71,6 @@ parted (b ∷ bs) = let h = parted bs in elim (stops b) as (λ t. cond t [] (b �
 
 pub end-stops : (f : ℕ) → stops (end-of f) ≡ true
 end-stops f = grind (arith, tells)
-
--- for code: the field is the part before the first stop, or all that is left
-pub field-until : (e : ℕ) (bytes : List ℕ) → e ≤ length bytes → Plain (take e bytes) → (e < length bytes → stops (getD bytes e 0) ≡ true) → (field bytes ≡ take e bytes) × (from-stop bytes ≡ drop e bytes)
-field-until zero [] h plain s = (refl, refl)
-field-until zero (b ∷ bs) h plain s = let t : stops b ≡ true = s (omega arith) in (rw t refl, rw t refl)
-field-until (suc e) [] h plain s = absurd (omega arith)
-field-until (suc e) (b ∷ bs) h plain s =
-    let (f, g) = field-until e bs (omega arith) (plain .1) (λ l. s (omega arith)) in
-    (rw (plain .0) (ap (λ x. b ∷ x) f), rw (plain .0) g)
 
 -- a right field, by its bytes
 field-right : (k : Kind) (f : ℕ) (w rest : List ℕ) → Allowed (getD (contents k) f no-bytes) w → RightField k f (w ++ (end-of f ∷ rest)) rest

@@ -1,13 +1,11 @@
 -- Where a field ends.
-use mathlib.Core.Path.{_≡_, refl, ap, sym, subst, _∙_}
+use mathlib.Core.Path.{_≡_, refl, ap, sym, _∙_}
 use mathlib.Core.List.{List, [], _∷_, _++_}
 use mathlib.Core.Bool.{true, false}
 use Prim.Native.Nat.{ℕ, _+_, _-_, _<_, _≤_}
 use native.Mathlib.Omega.{arith}
 use lib.ListN.{length, getD, take, drop}
-use lib.Dec.{eqb}
 use Rattle.std.proofs.shelf.Lists.{take-more, drop-more, drop-all, append-assoc, append-nil, getD-drop, length-drop}
-use Rattle.std.proofs.shelf.Ways.{tells}
 use Rattle.texts.specs.RowText.{stops, field, from-stop, end-of}
 use Rattle.texts.specs.Reading.{Ended}
 use Rattle.texts.proofs.Findings.{never}
@@ -18,9 +16,6 @@ pub record NoStop (bytes : List ℕ) (start end : ℕ) : Type 0 where
   pub from : start ≤ end
   pub holds : field (drop start bytes) ≡ take (end - start) (drop start bytes) ++ field (drop end bytes)
   pub rest : from-stop (drop start bytes) ≡ from-stop (drop end bytes)
-
-pub no-stop-none : (bytes : List ℕ) (start : ℕ) → NoStop bytes start start
-no-stop-none bytes start = let e : start - start ≡ 0 = omega arith in record { from = omega arith; holds = rw e refl; rest = refl }
 
 pub no-stop-more : (bytes : List ℕ) (start end : ℕ) → NoStop bytes start end → end < length bytes → stops (getD bytes end 0) ≡ false → NoStop bytes start (end + 1)
 no-stop-more bytes start end going l s =

@@ -1,8 +1,7 @@
 -- Reading a text line by line.
-use mathlib.Core.Path.{_≡_, refl, ap, sym, subst, _∙_}
+use mathlib.Core.Path.{_≡_, ap, sym, subst, _∙_}
 use mathlib.Core.List.{List, [], _∷_, _++_}
-use mathlib.Core.Bool.{cond}
-use Prim.Native.Nat.{ℕ, zero, suc, _+_, _-_, _<_, _≤_}
+use Prim.Native.Nat.{ℕ, _+_, _-_, _<_, _≤_}
 use native.Mathlib.Omega.{arith}
 use lib.Dec.{ltb}
 use lib.ListN.{length, getD, drop}
@@ -27,9 +26,6 @@ pub record ReadTo (bytes : List ℕ) (place n : ℕ) (rows : List Row) : Type 0 
   pub few : n ≤ max-rows
   pub proper : All Proper rows
   pub spelt : bytes ≡ spelled rows ++ drop place bytes
-
-pub read-none : (bytes : List ℕ) (rows : List Row) → rows ≡ [] → ReadTo bytes 0 0 rows
-read-none bytes rows e = subst (ReadTo bytes 0 0) (sym e) (record { count = refl; few = omega arith; proper = tt; spelt = refl })
 
 pub read-more : (bytes : List ℕ) (place next n : ℕ) (rows after : List Row) (row : Row) → ReadTo bytes place n rows → (n ≡ max-rows → ⊥) → Proper row × (drop place bytes ≡ spelled-row row ++ drop next bytes) → after ≡ pushed rows row → ReadTo bytes next (n + 1) after
 read-more bytes place next n rows after row going room (p, e) is =

@@ -1,8 +1,7 @@
 // The fields of a line: where each ends, and its value.
 ghost use mathlib.Core.Path.{_≡_};
-ghost use mathlib.Core.List.{List, _∷_};
-ghost use Prim.Native.Nat.{ℕ, _≤_};
-ghost use lib.ListN.{length, drop};
+ghost use mathlib.Core.List.{List};
+ghost use Prim.Native.Nat.{ℕ};
 ghost use Rattle.texts.specs.RowText.{stops, end-of};
 ghost use Rattle.texts.specs.Reading.{Told, EndFound, FieldRead, OfKind, OfCapability, OfLabels, OfNumber, OfBlank};
 use super::kinds::Kind;

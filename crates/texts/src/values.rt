@@ -1,7 +1,7 @@
 // What the bytes of one field say.
 ghost use mathlib.Core.Path.{_≡_};
-ghost use mathlib.Core.List.{List, [], _∷_};
-ghost use Prim.Native.Nat.{ℕ, _+_, _<_};
+ghost use mathlib.Core.List.{[], _∷_};
+ghost use Prim.Native.Nat.{_+_, _<_};
 ghost use Rattle.texts.specs.RowText.{letter, capability-letter, hex-digit};
 ghost use Rattle.texts.specs.Reading.{Told, OfKind, OfCapability, OfLabels, OfNumber};
 use super::kinds::Kind;

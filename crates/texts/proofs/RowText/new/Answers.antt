@@ -1,4 +1,4 @@
-use mathlib.Core.Path.{_≡_, sym, ap, _∙_}
+use mathlib.Core.Path.{ap, _∙_}
 use Rattle.texts.specs.Faults.{spelled-by}
 use Rattle.texts.proofs.Judging.{one-outcome}
 use Rattle.texts.proofs.RowText.new.Needs as need

@@ -1,4 +1,3 @@
-use native.Mathlib.Omega.{arith}
 use Rattle.forms.specs.Buffers.{rows-of}
 use Rattle.texts.specs.RowText.Judged.{is-long}
 use Rattle.texts.proofs.Judging.{judgement-is-one, right-is-spelled, spelled-is-short}

@@ -1,5 +1,5 @@
 use mathlib.Core.Path.{sym, _∙_}
-use Rattle.texts.proofs.Stops.{no-stop-none, no-stop-more, no-stop-found, no-stop-other, no-stop-all}
+use Rattle.texts.proofs.Stops.{no-stop-more, no-stop-found, no-stop-other, no-stop-all}
 use Rattle.texts.proofs.fields.find_end.Needs as need
 
 pub returns-then-text-end : need.returns-then-text-end

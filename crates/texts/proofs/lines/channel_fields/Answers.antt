@@ -1,5 +1,4 @@
 use mathlib.Core.Path.{refl}
-use native.Mathlib.Omega.{arith}
 use lib.ListN.{drop}
 use Rattle.std.proofs.shelf.Results.{err-from-errBy}
 use Rattle.texts.specs.declared.kinds.Kind.the-variants.{Channel as channel}
