@@ -1,0 +1,12 @@
+pub mod Findings
+pub mod Numbers
+pub mod RightLines
+pub mod Judging
+pub mod Outcomes
+pub mod Digits
+pub mod Stops
+pub mod LineSteps
+pub mod TextSteps
+pub mod Laying
+pub mod Measures
+pub mod Writes

@@ -1,0 +1,103 @@
+-- Writing has one outcome, and writing and reading undo each other.
+use mathlib.Core.Path.{_≡_, refl, ap, sym, subst}
+use mathlib.Core.List.{List, [], _∷_}
+use mathlib.Core.Logic.{_⊎_, inl, inr, ⊎-elim}
+use Prim.Native.Nat.{ℕ, zero, suc, _<_, _≤_}
+use native.Mathlib.Omega.{arith}
+use lib.ListN.{length}
+use Rattle.std.specs.shelf.Lists.{All}
+use Rattle.std.specs.shelf.Maps.{nth}
+use Rattle.std.specs.declared.option.Option.the-variants.{Some}
+use Rattle.std.proofs.shelf.Tests.{cases-lt}
+use Rattle.forms.specs.declared.Row.{Row}
+use Rattle.forms.specs.declared.Row.the-variants.{Void, Nothing, Channel, Element, Union}
+use Rattle.forms.specs.Limits.{max-rows}
+use Rattle.forms.specs.Places.{Nowhere, Lowest}
+use Rattle.forms.specs.Refusals.{Outcome}
+use Rattle.forms.specs.Refusals.Refusal.{refusal}
+use Rattle.forms.specs.Refusals.Outcome.{refuses, gives}
+use Rattle.forms.specs.Rows.{NumbersBelow, Labelled}
+use Rattle.texts.specs.RowText.{spelled, Proper}
+use Rattle.texts.specs.Writing.{NumberOver, WritesRows, Writing-rows-is-one, Written-rows-are-right, Right-rows-are-written}
+use Rattle.texts.specs.Writing.WritesRows.{is-over, is-long, is-written}
+use Rattle.texts.proofs.Findings.{never, Decided, both-or-not, least-below, lowest-one}
+use Rattle.texts.proofs.Judging.{right-is-spelled}
+
+below-or-not : (m n : ℕ) → Decided (m < n)
+below-or-not m n = ⊎-elim inl (λ l. inr (λ h. omega arith)) (cases-lt m n)
+
+pub numbered-or-not : (r : Row) → Decided (NumbersBelow max-rows r)
+numbered-or-not Void = inl tt
+numbered-or-not Nothing = inl tt
+numbered-or-not (Channel c s) = below-or-not s max-rows
+numbered-or-not (Element l i n) = both-or-not (below-or-not i max-rows) (below-or-not n max-rows)
+numbered-or-not (Union l r) = both-or-not (below-or-not l max-rows) (below-or-not r max-rows)
+
+-- the k-th of a list has a fault, or it has none
+abbrev Fault : {X : Type 0} → List X → (ℕ → X → Type 0) → ℕ → Type 0
+Fault {X} xs P k = (x : X) × (nth xs k ≡ Some x) × (P k x → ⊥)
+
+fault-or-not : {X : Type 0} (xs : List X) (P : ℕ → X → Type 0) → ((k : ℕ) (x : X) → Decided (P k x)) → (k : ℕ) → Decided (Fault xs P k)
+fault-or-not {X} xs P test k = ⊎-elim
+    (λ (x, e). ⊎-elim (λ h. inr (λ (y, e′, np). let ey : x ≡ y = cc in np (subst (P k) ey h))) (λ np. inl (x, e, np)) (test k x))
+    (λ none. inr (λ (y, e, np). none y e))
+    (entry xs k)
+  where
+    entry : (xs : List X) (k : ℕ) → ((x : X) × (nth xs k ≡ Some x)) ⊎ ((x : X) → nth xs k ≡ Some x → ⊥)
+    entry [] k = inr (λ x e. never (cc))
+    entry (x ∷ xs) zero = inl (x, refl)
+    entry (x ∷ xs) (suc k) = entry xs k
+
+pub nth-below : {X : Type 0} (xs : List X) (k : ℕ) {x : X} → nth xs k ≡ Some x → k < length xs
+nth-below [] k e = never (cc)
+nth-below (y ∷ xs) zero e = omega arith
+nth-below (y ∷ xs) (suc k) e = omega (arith, nth-below xs k e)
+
+faulty : {X : Type 0} (xs : List X) (P : ℕ → X → Type 0) → ((k : ℕ) (x : X) → Decided (P k x)) → ((k : ℕ) × Lowest (Fault xs P) k) ⊎ ((k : ℕ) (x : X) → nth xs k ≡ Some x → P k x)
+faulty xs P test = ⊎-elim
+    (λ (k, h, lowest). inl (k, lowest))
+    (λ none. inr (λ k x e. ⊎-elim (λ h. h) (λ np. absurd (none k (nth-below xs k e) (x, e, np))) (test k x)))
+    (least-below (fault-or-not xs P test) (length xs))
+
+-- ROWS
+module _ (room : ℕ) (rows : List Row) where
+  writes-rows : (o : Outcome (List ℕ)) × WritesRows room rows o
+  writes-rows = ⊎-elim
+      (λ (k, lowest). (refuses (refusal 4 (k ∷ [])), is-over lowest))
+      (λ all. let none = λ (k : ℕ) (f : NumberOver rows k). f .2 (all k (f .0) (f .1)) in
+      ⊎-elim (λ long. (refuses (refusal 5 []), is-long none long)) (λ fit. (gives (spelled rows), is-written none fit)) (cases-lt room (length (spelled rows))))
+      (faulty rows (λ _. NumbersBelow max-rows) (λ _. numbered-or-not))
+
+  same-rows : {o p : Outcome (List ℕ)} → WritesRows room rows o → WritesRows room rows p → p ≡ o
+  same-rows (is-over {k} low) (is-over {k = j} low′) = ap (λ n. refuses (refusal 4 (n ∷ []))) (lowest-one (NumberOver rows) j k low′ low)
+  same-rows (is-over {k} low) (is-long none l) = absurd (none k (low .0))
+  same-rows (is-over {k} low) (is-written none l) = absurd (none k (low .0))
+  same-rows (is-long none l) (is-over {k} low) = absurd (none k (low .0))
+  same-rows (is-long none l) (is-long none′ l′) = refl
+  same-rows (is-long none l) (is-written none′ l′) = absurd (omega arith)
+  same-rows (is-written none l) (is-over {k} low) = absurd (none k (low .0))
+  same-rows (is-written none l) (is-long none′ l′) = absurd (omega arith)
+  same-rows (is-written none l) (is-written none′ l′) = refl
+
+pub writing-rows-is-one : Writing-rows-is-one
+writing-rows-is-one room rows = let (o, w) = writes-rows room rows in (o, w, λ p w′. same-rows room rows w w′)
+
+rows-proper : (rows : List Row) → Nowhere (NumberOver rows) → All Labelled rows → All Proper rows
+rows-proper [] none all = tt
+rows-proper (r ∷ rows) none all = ((⊎-elim (λ h. h) (λ np. absurd (none 0 (r, refl, np))) (numbered-or-not r), all .0), rows-proper rows (λ k (x, e, np). none (suc k) (x, e, np)) (all .1))
+
+pub written-rows-are-right : Written-rows-are-right
+written-rows-are-right room rows text few labelled w = right-is-spelled text rows .1 (written w)
+  where
+    written : {t : List ℕ} → WritesRows room rows (gives t) → (length rows ≤ max-rows) × All Proper rows × (t ≡ spelled rows)
+    written (is-written none l) = (few, rows-proper rows none labelled, refl)
+
+proper-rows : (rows : List Row) → All Proper rows → Nowhere (NumberOver rows)
+proper-rows [] all k (r, e, over) = never (cc)
+proper-rows (x ∷ rows) all zero (r, e, over) = let h : x ≡ r = cc in over (subst (NumbersBelow max-rows) h (all .0 .0))
+proper-rows (x ∷ rows) all (suc k) over = proper-rows rows (all .1) k over
+
+pub right-rows-are-written : Right-rows-are-written
+right-rows-are-written room rows text right short =
+    let (few, all, e) = right-is-spelled text rows .0 right in
+    subst (λ t. WritesRows room rows (gives t)) (sym e) (is-written (proper-rows rows all) (omega (arith, ap length e)))

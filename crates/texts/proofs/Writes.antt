@@ -1,0 +1,34 @@
+-- What writing rows leaves in the buffer.
+use mathlib.Core.Path.{_≡_, refl, ap, sym, subst}
+use mathlib.Core.List.{List}
+use Prim.Native.Nat.{ℕ, _<_, _≤_}
+use native.Mathlib.Omega.{arith}
+use lib.ListN.{length, take}
+use Rattle.std.specs.declared.result.Result.the-variants.{Ok, Err}
+use Rattle.std.proofs.shelf.Elements.{all-weaker}
+use Rattle.forms.specs.declared.Row.{Row}
+use Rattle.forms.specs.Refusals.Outcome.{refuses, gives}
+use Rattle.forms.specs.Rows.{Fit, Labelled, Lawful}
+use Rattle.texts.specs.declared.RowsFault.{RowsFault}
+use Rattle.texts.specs.declared.RowsFault.the-variants.{NumberOver, NoRoom}
+use Rattle.texts.specs.RowText.{spelled, Judged}
+use Rattle.texts.specs.Writing.{WritesRows, Lays}
+use Rattle.texts.specs.Writing.WritesRows.{is-over, is-long, is-written}
+use Rattle.texts.specs.Faults.{rows-refusal, TotalFound, RowsWritten}
+use Rattle.texts.proofs.Laying.{laid-front}
+use Rattle.texts.proofs.Outcomes.{written-rows-are-right}
+
+pub wrote-over : (rows read : List Row) (before : List ℕ) (e : RowsFault) → read ≡ rows → TotalFound read (Err e) → RowsWritten rows before before (Err e)
+wrote-over rows read before e same (k, is, lowest) = (subst (λ f. WritesRows (length before) rows (refuses (rows-refusal f))) (sym is) (subst (λ x. WritesRows (length before) x (refuses (rows-refusal (NumberOver k)))) same (is-over lowest)), refl)
+
+pub wrote-long : (rows read : List Row) (before : List ℕ) (n : ℕ) → read ≡ rows → TotalFound read (Ok n) → length before < n → RowsWritten rows before before (Err NoRoom)
+wrote-long rows read before n same (none, is) l = (subst (λ x. WritesRows (length before) x (refuses (rows-refusal NoRoom))) same (is-long none (omega arith)), refl)
+
+pub wrote-all : (rows read : List Row) (before after : List ℕ) (n r : ℕ) → read ≡ rows → TotalFound read (Ok n) → n ≤ length before → Lays (spelled read) before after 0 r → RowsWritten rows before after (Ok r)
+wrote-all rows read before after n r same (none, is) l lays =
+    let (front, rest) = laid-front before after (spelled read) r lays (omega arith) in
+    let w : WritesRows (length before) rows (gives (spelled read)) = subst (λ x. WritesRows (length before) x (gives (spelled read))) same (is-written none (omega arith)) in
+    (subst (λ t. WritesRows (length before) rows (gives t)) (sym front) w, omega (arith, lays .behind, ap length front), rest)
+
+pub wrote-right : (rows : List Row) (before after : List ℕ) (r : ℕ) → Lawful rows → RowsWritten rows before after (Ok r) → Judged (take r after) (gives rows)
+wrote-right rows before after r lawful w = written-rows-are-right (length before) rows (take r after) (lawful .few) (all-weaker Fit Labelled (λ x p. p .1) rows (lawful .fit)) (w .0)

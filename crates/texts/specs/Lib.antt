@@ -1,0 +1,5 @@
+pub mod Limits
+pub mod RowText
+pub mod Reading
+pub mod Writing
+pub mod Faults
