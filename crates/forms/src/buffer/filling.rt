@@ -5,6 +5,7 @@ ghost use mathlib.Core.Bool.{true};
 ghost use Prim.Native.Nat.{ℕ, _<_, _≤_};
 ghost use lib.Dec.{ltb};
 ghost use lib.ListN.{length, take};
+ghost use Rattle.std.specs.shelf.Maps.{nth};
 ghost use Rattle.forms.specs.Limits.{max-rows};
 ghost use Rattle.forms.specs.Rows.{fits, few};
 ghost use Rattle.forms.specs.Laws.{buffer-laws};
@@ -33,6 +34,17 @@ fn fitting(row: Row) -> Row
             following,
         },
         Row::Union(left, right) => Row::Union(left, right),
+    }
+}
+
+// The row with that number, or none.
+fn row_of(rows: &[Row], number: u8) -> Option<Row>
+    ensures { λ r. ⌜ r ≡ nth (now (rows .entry)) number ⌝ }
+{
+    if (number as usize) < rows.len() {
+        Some(rows[number as usize])
+    } else {
+        None
     }
 }
 
@@ -100,14 +112,10 @@ pub impl FormSource for RowBuffer as BufferSource {
     ghost lawful = { buffer-laws };
 
     fn count(&self) -> usize {
-        self.count
+        self.rows().len()
     }
 
     fn row(&self, number: u8) -> Option<Row> {
-        if (number as usize) < self.count {
-            Some(self.table[number as usize])
-        } else {
-            None
-        }
+        row_of(self.rows(), number)
     }
 }
