@@ -2,5 +2,6 @@ pub mod Limits
 pub mod Places
 pub mod Refusals
 pub mod Rows
+pub mod Documents
 pub mod Laws
 pub mod Buffers

@@ -1,0 +1,6 @@
+pub mod Texts
+pub mod Scanning
+pub mod Reading
+pub mod Tables
+pub mod Levels
+pub mod Writing

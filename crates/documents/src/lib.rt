@@ -1,0 +1,3 @@
+// Order documents: tables of nodes, and text.
+pub mod nodes;
+mod scan;
