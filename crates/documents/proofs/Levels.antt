@@ -35,14 +35,14 @@ use Rattle.documents.proofs.Scanning.Move.{nowhere, closes, opens, to-label, t
 use Rattle.documents.proofs.Reading.{goes-on-all, text-goes-on}
 
 -- the level after a byte, and after bytes
-abbrev shift : ℕ → ℕ → ℕ
+abbrev pub shift : ℕ → ℕ → ℕ
 shift n b = cond (eqb b 91) (suc n) (cond (eqb b 93) (n - 1) n)
 
 abbrev after : ℕ → List ℕ → ℕ
 after n [] = n
 after n (b ∷ w) = after (shift n b) w
 
-abbrev depth : State → ℕ
+abbrev pub depth : State → ℕ
 depth (within n p) = n
 depth stuck = 0
 
@@ -52,10 +52,10 @@ opened w = countBy (λ b. eqb b 91) w
 abbrev shut : List ℕ → ℕ
 shut w = countBy (λ b. eqb b 93) w
 
-abbrev Moves-level : ℕ → ℕ → ℕ → Type 0
+abbrev pub Moves-level : ℕ → ℕ → ℕ → Type 0
 Moves-level n b m = (shift n b ≡ m) × (n + cond (eqb b 91) 1 0 ≡ m + cond (eqb b 93) 1 0)
 
-move-level : {n b : ℕ} {p : Phase} {s : State} → Move n p b s → goes-on s ≡ true → Moves-level n b (depth s)
+pub move-level : {n b : ℕ} {p : Phase} {s : State} → Move n p b s → goes-on s ≡ true → Moves-level n b (depth s)
 move-level nowhere e = never (cc)
 move-level (closes {n} h) e = (omega arith, omega arith)
 move-level (opens {n}) e = (refl, omega arith)

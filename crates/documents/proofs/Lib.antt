@@ -4,3 +4,4 @@ pub mod Reading
 pub mod Tables
 pub mod Levels
 pub mod Writing
+pub mod Judging

@@ -19,7 +19,7 @@ use Rattle.documents.specs.Nodes.{StandsFor, SoundAt, Sound, size, root, nodes
 use Rattle.documents.specs.Nodes.StandsFor.{for-void, for-reference, for-element}
 use Rattle.texts.proofs.Findings.{never}
 
-length-nodes : (d : Document) (n : ℕ) → length (nodes-from n d) ≡ size d
+pub length-nodes : (d : Document) (n : ℕ) → length (nodes-from n d) ≡ size d
 length-nodes void n = refl
 length-nodes (reference c) n = refl
 length-nodes (element x a b) n = simp length-append (omega (arith, length-nodes a n, length-nodes b (n + size a)))

@@ -2,5 +2,6 @@ pub mod Limits
 pub mod Grammar
 pub mod Scan
 pub mod Nodes
+pub mod Judged
 pub mod Reading
 pub mod Writing
