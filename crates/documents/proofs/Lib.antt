@@ -5,3 +5,4 @@ pub mod Tables
 pub mod Levels
 pub mod Writing
 pub mod Judging
+pub mod Building

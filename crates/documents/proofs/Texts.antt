@@ -7,6 +7,7 @@ use Rattle.std.specs.Written.{decimal}
 use Rattle.std.proofs.shelf.Lists.{append-assoc, append-nil}
 use Rattle.forms.specs.Documents.{Document}
 use Rattle.forms.specs.Limits.{label-count}
+use Rattle.documents.specs.Built.{NoDigit, Closing}
 use Rattle.documents.specs.Grammar.{Text, Listed, Bracketed, comma-before, spelled-document, Small, Texts-are-spelled, Texts-are-unambiguous}
 use Rattle.forms.specs.Documents.Document.{void, reference, element}
 use Rattle.documents.specs.Grammar.Text.{empty, a-list}
@@ -59,11 +60,6 @@ pub texts-are-spelled : Texts-are-spelled
 texts-are-spelled bytes d = (text-spells, λ (h, e). rw e (spells-text d h))
 
 -- ONE DOCUMENT
--- no digit comes next
-abbrev NoDigit : List ℕ → Type 0
-NoDigit [] = Unit {0}
-NoDigit (b ∷ s) = 57 < b
-
 figures-one : {m n : ℕ} {f g : List ℕ} → Figures m f → Figures n g → (s t : List ℕ) → NoDigit s → NoDigit t → f ++ s ≡ g ++ t → (m ≡ n) × (s ≡ t)
 figures-one {m} {n} (one h) (one g) s t p q e = let e′ : 48 + m ≡ 48 + n = cc in (omega arith, cc)
 figures-one {m} {n} (one h) (two g k) s t p q e = let e′ : s ≡ (48 + n % 10) ∷ t = cc in let l : NoDigit ((48 + n % 10) ∷ t) = rw e′ at p in absurd (omega arith)
@@ -74,17 +70,12 @@ figures-digit : {n : ℕ} {f : List ℕ} → Figures n f → (s : List ℕ) → 
 figures-digit {n} (one h) s c = omega arith
 figures-digit {n} (two h g) s c = omega arith
 
--- a list ends here: by a bracket, or by the end
-abbrev Closing : List ℕ → Type 0
-Closing [] = Unit {0}
-Closing (b ∷ s) = b ≡ 93
-
-closing-no-digit : (s : List ℕ) → Closing s → NoDigit s
+pub closing-no-digit : (s : List ℕ) → Closing s → NoDigit s
 closing-no-digit [] c = tt
 closing-no-digit (b ∷ s) c = omega arith
 
 -- the bytes of an element with what follows it
-element-bytes : (x : ℕ) (a b : Document) (s : List ℕ) → spelled-document (element x a b) ++ s ≡ decimal x ++ (91 ∷ (spelled-document a ++ (93 ∷ (comma-before b ++ (spelled-document b ++ s)))))
+pub element-bytes : (x : ℕ) (a b : Document) (s : List ℕ) → spelled-document (element x a b) ++ s ≡ decimal x ++ (91 ∷ (spelled-document a ++ (93 ∷ (comma-before b ++ (spelled-document b ++ s)))))
 element-bytes x a b s = simp append-assoc
 
 no-element : (x : ℕ) (a b : Document) (s t : List ℕ) → x < label-count → NoDigit t → spelled-document (element x a b) ++ s ≡ t → ⊥

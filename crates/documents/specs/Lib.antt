@@ -5,3 +5,4 @@ pub mod Nodes
 pub mod Judged
 pub mod Reading
 pub mod Writing
+pub mod Built

@@ -1,3 +1,4 @@
 // Order documents: tables of nodes, and text.
 pub mod nodes;
-mod scan;
+pub mod reader;
+pub mod scan;
