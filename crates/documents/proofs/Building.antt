@@ -4,9 +4,10 @@ use mathlib.Core.List.{List, [], _∷_, _++_}
 use mathlib.Core.Logic.{_⊎_, inl, inr, ⊎-elim}
 use Prim.Native.Nat.{ℕ, zero, suc, _+_, _-_, _*_, _/_, _%_, _<_, _≤_}
 use native.Mathlib.Omega.{arith}
+use native.Mathlib.Nat.{zero-add}
 use lib.ListN.{length, getD, set, drop, length-drop, length-append}
 use Rattle.std.specs.Written.{decimal}
-use Rattle.std.proofs.shelf.Lists.{drop-drop, drop-at, getD-drop, getD-past, append-assoc}
+use Rattle.std.proofs.shelf.Lists.{drop-drop, drop-at, getD-drop, getD-past, append-assoc, append-nil}
 use Rattle.std.proofs.shelf.Tests.{cases-lt}
 use Rattle.forms.specs.Limits.{max-rows}
 use Rattle.forms.specs.Documents.{Document}
@@ -14,11 +15,11 @@ use Rattle.forms.specs.Documents.Document.{void, reference, element}
 use Rattle.forms.specs.Splices.{spliced}
 use Rattle.forms.proofs.Splices.{splice-none, splice-one, splice-both, length-splice}
 use Rattle.documents.specs.declared.nodes.Node.{Node}
-use Rattle.documents.specs.declared.nodes.Node.the-variants.{Reference, Element}
+use Rattle.documents.specs.declared.nodes.Node.the-variants.{Void, Reference, Element}
 use Rattle.documents.specs.declared.reader.Reached.{Reached}
 use Rattle.documents.specs.Grammar.{comma-before, spelled-document, Small}
-use Rattle.documents.specs.Nodes.{size, root, nodes-from}
-use Rattle.documents.specs.Built.{NoDigit, Closing, Built, ReadsNumber, BuildsList, BuildsItem}
+use Rattle.documents.specs.Nodes.{size, root, nodes-from, nodes-of}
+use Rattle.documents.specs.Built.{NoDigit, Closing, Built, ReadsNumber, BuildsList, BuildsItem, BuildsText}
 use Rattle.texts.proofs.Findings.{never}
 use Rattle.documents.proofs.Tables.{length-nodes}
 use Rattle.documents.proofs.Texts.{closing-no-digit, element-bytes}
@@ -236,3 +237,25 @@ module _ (t : List ℕ) (p label end start : ℕ) (reads : ReadsNumber t p (labe
         let (lt, _, _) = front t (start + length (spelled-document a)) (behind t start (spelled-document a) c) in
         (el, record { place = omega (arith, built .place, closes (omega (arith, built .place))); count = ue ∙ built .count; top = re ∙ built .top; nodes = built .nodes }))
       (comma-or-void a)
+
+-- THE WHOLE TEXT
+at-front : (o : List Node) (s : List Node) → spliced o 0 s ≡ s ++ drop (length s) o
+at-front o s = ap (λ k. s ++ drop k o) (zero-add (length s))
+
+-- the void node, and then the others
+whole : (before m after : List Node) (d : Document) → m ≡ set before 0 Void → length (nodes-of d) ≤ length before → after ≡ spliced m 1 (nodes-from 1 d) → after ≡ nodes-of d ++ drop (length (nodes-of d)) before
+whole before m after d first fits e =
+    let some : 0 < length before = omega arith in
+    e ∙ ap (λ x. spliced x 1 (nodes-from 1 d)) (first ∙ splice-one before 0 Void some) ∙ splice-both before 0 (Void ∷ []) (omega arith) (nodes-from 1 d) 1 (omega arith) ∙ at-front before (nodes-of d)
+
+pub build-some : (text : List ℕ) (before m after : List Node) (r : Reached) → 0 < length text → m ≡ set before 0 Void → length m ≡ length before → BuildsList text 0 m after 1 r → BuildsText text before after
+build-some text before m after r some first long builds d h e fits = ⊎-elim
+    (λ ev. absurd (omega (arith, ap length e, ap (λ x. length (spelled-document x)) ev)))
+    (λ ec. whole before m after d first fits (builds d [] h ec (e ∙ sym (append-nil (spelled-document d))) tt (omega arith) (omega (arith, length-nodes d 1)) .nodes))
+    (comma-or-void d)
+
+pub build-none : (text : List ℕ) (before m : List Node) → length text ≤ 0 → m ≡ set before 0 Void → BuildsText text before m
+build-none text before m none first d h e fits = ⊎-elim
+    (λ ev. whole before m m d first fits (sym (ap (λ x. spliced m 1 (nodes-from 1 x)) ev ∙ splice-none m 1)))
+    (λ ec. let (b, rest, is, _) = first-byte d h ec [] in absurd (omega (arith, ap length e, ap length (sym (append-nil (spelled-document d)) ∙ is))))
+    (comma-or-void d)

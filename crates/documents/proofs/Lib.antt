@@ -6,3 +6,5 @@ pub mod Levels
 pub mod Writing
 pub mod Judging
 pub mod Building
+pub mod Outcomes
+pub mod Shapes

@@ -29,6 +29,11 @@ root-below void n h = omega arith
 root-below (reference c) n h = omega arith
 root-below (element x a b) n h = omega arith
 
+pub nth-below : {X : Type 0} (xs : List X) (k : ℕ) {x : X} → nth xs k ≡ Some x → k < length xs
+nth-below [] k e = never (cc)
+nth-below (y ∷ xs) zero e = omega arith
+nth-below (y ∷ xs) (suc k) e = omega (arith, nth-below xs k e)
+
 -- where the nodes of a joined list come from
 nth-append : {A : Type 0} (xs ys : List A) (k : ℕ) {m : A} → nth (xs ++ ys) k ≡ Some m → (nth xs k ≡ Some m) ⊎ ((j : ℕ) × (k ≡ length xs + j) × (nth ys j ≡ Some m))
 nth-append [] ys k e = inr (k, omega arith, e)

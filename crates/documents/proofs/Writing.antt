@@ -23,7 +23,7 @@ use Rattle.documents.specs.Nodes.StandsFor.{for-void, for-reference, for-eleme
 use Rattle.documents.specs.Writing.{Read-is-written-back, Unsound, WritesDocument, Writing-documents-is-one}
 use Rattle.documents.specs.Writing.WritesDocument.{is-many, is-unsound, is-outside, is-long, is-written}
 use Rattle.texts.proofs.Findings.{never, Decided, both-or-not, least-below, lowest-one}
-use Rattle.documents.proofs.Tables.{stands-one, nodes-stand-for-one, nodes-stand-for-documents}
+use Rattle.documents.proofs.Tables.{nth-below, stands-one, nodes-stand-for-one, nodes-stand-for-documents}
 use Rattle.documents.proofs.Levels.{read-is-spelled}
 
 at-most : (m n : ℕ) → Decided (m ≤ n)
@@ -43,11 +43,6 @@ fault-or-not {X} xs P test k = ⊎-elim
     entry [] k = inr (λ x e. never (cc))
     entry (x ∷ xs) zero = inl (x, refl)
     entry (x ∷ xs) (suc k) = entry xs k
-
-nth-below : {X : Type 0} (xs : List X) (k : ℕ) {x : X} → nth xs k ≡ Some x → k < length xs
-nth-below [] k e = never (cc)
-nth-below (y ∷ xs) zero e = omega arith
-nth-below (y ∷ xs) (suc k) e = omega (arith, nth-below xs k e)
 
 faulty : {X : Type 0} (xs : List X) (P : ℕ → X → Type 0) → ((k : ℕ) (x : X) → Decided (P k x)) → ((k : ℕ) × Lowest (Fault xs P) k) ⊎ ((k : ℕ) (x : X) → nth xs k ≡ Some x → P k x)
 faulty xs P test = ⊎-elim

@@ -11,7 +11,7 @@ use Rattle.documents.specs.declared.nodes.Node.{Node}
 use Rattle.documents.specs.declared.reader.Reached.{Reached}
 use Rattle.documents.specs.Limits.{max-document}
 use Rattle.documents.specs.Grammar.{comma-before, spelled-document, Small}
-use Rattle.documents.specs.Nodes.{size, root, nodes-from}
+use Rattle.documents.specs.Nodes.{size, root, nodes-from, nodes-of}
 
 -- no digit comes next
 abbrev pub NoDigit : List ℕ → Type 0
@@ -57,3 +57,7 @@ abbrev pub BuildsItem : List ℕ → ℕ → List Node → List Node → ℕ →
 BuildsItem text place before after used r =
     (x : ℕ) (a : Document) (tail : List ℕ) → x < label-count → Small a → drop place text ≡ decimal x ++ (91 ∷ (spelled-document a ++ (93 ∷ tail))) → 1 ≤ used → used + size a ≤ length before →
     (r .0 ≡ x) × Built a before after used (place + length (decimal x) + length (spelled-document a) + 2) (r .1)
+
+-- the text of a document stands as its nodes at the front of the table, and the rest is as it was
+abbrev pub BuildsText : List ℕ → List Node → List Node → Type 0
+BuildsText text before after = (d : Document) → Small d → text ≡ spelled-document d → length (nodes-of d) ≤ length before → after ≡ nodes-of d ++ drop (length (nodes-of d)) before

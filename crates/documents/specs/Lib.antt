@@ -6,3 +6,6 @@ pub mod Judged
 pub mod Reading
 pub mod Writing
 pub mod Built
+pub mod Faults
+pub mod Answers
+pub mod Spelling

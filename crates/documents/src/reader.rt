@@ -6,8 +6,14 @@ ghost use lib.ListN.{length, getD, set};
 ghost use Rattle.std.specs.Options.{Cases as BySome};
 ghost use Rattle.documents.specs.declared.nodes.Node.the-variants.{Element};
 ghost use Rattle.documents.specs.Limits.{max-document};
-ghost use Rattle.documents.specs.Built.{Ready, Onward, ReadsNumber, BuildsList, BuildsItem};
+ghost use Rattle.documents.specs.Built.{Ready, Onward, ReadsNumber, BuildsList, BuildsItem, BuildsText};
+ghost use Rattle.documents.specs.Answers.{ReadInto, WritesBack};
+use super::faults::ReadFault;
+use super::nodes::MAX_DOCUMENT;
+use super::nodes::MAX_NODES;
 use super::nodes::Node;
+use super::scan::Judgement;
+use super::scan::judge;
 
 // Where reading goes on, how many nodes are used, and the number of the last one.
 #[derive(Clone, Copy)]
@@ -117,4 +123,37 @@ fn item(text: &[u8], place: usize, nodes: &mut [Node], used: usize) -> (u8, Reac
     let inside = list(text, start, nodes, used);
     let shut = skip(text, inside.place);
     (label, Reached { place: shut, used: inside.used, root: inside.root })
+}
+
+// The nodes of a text that is known to be right and to fit.
+fn build(text: &[u8], nodes: &mut [Node])
+    requires { ⌜ length (now text) ≤ max-document ⌝ }
+    ensures { λ _. ⌜ BuildsText (now (text .entry)) (now (nodes .entry)) (now (nodes .exit)) ⌝ }
+{
+    put(nodes, 0, Node::Void);
+    if text.len() > 0 {
+        let _ = list(text, 0, nodes, 1);
+    }
+}
+
+// Reads a text into the front of a buffer of nodes, and answers how many they are. Node 0 is void; an element's inside nodes come
+// first, then its following nodes, then its own; the last is the root.
+pub fn read_document(text: &[u8], nodes: &mut [Node]) -> Result<usize, ReadFault>
+    ensures read { λ r. ⌜ ReadInto (now (text .entry)) (now (nodes .entry)) (now (nodes .exit)) r ⌝ }
+    ensures back { λ r. ⌜ WritesBack (now (text .entry)) (now (nodes .exit)) r ⌝ }
+{
+    if text.len() > MAX_DOCUMENT {
+        return Err(ReadFault::TooLong);
+    }
+    match judge(text) {
+        Judgement::Wrong(place) => Err(ReadFault::Wrong { place }),
+        Judgement::Deep(place) => Err(ReadFault::TooDeep { place }),
+        Judgement::Text(count) => {
+            if count > nodes.len().min(MAX_NODES) {
+                return Err(ReadFault::TooManyNodes);
+            }
+            build(text, nodes);
+            Ok(count)
+        }
+    }
 }

@@ -6,7 +6,7 @@ use native.Mathlib.Omega.{arith}
 use native.Mathlib.Numerals.{add-one}
 use lib.ListN.{length, set, take, drop, length-append, length-take, length-drop}
 use Rattle.std.proofs.shelf.Lists.{append-assoc, take-append-drop, take-at, drop-at, drop-drop, set-split}
-use Rattle.forms.specs.Splices.{spliced}
+use Rattle.forms.specs.Splices.{spliced, Wrote}
 
 pub splice-none : {A : Type 0} (o : List A) (p : ℕ) → spliced o p [] ≡ o
 splice-none o p = ap (λ k. take p o ++ drop k o) (omega arith) ∙ take-append-drop p o
@@ -40,3 +40,15 @@ module _ {A : Type 0} (o : List A) (p : ℕ) (s : List A) (h : p + length s ≤ 
 
   pub length-splice : length (spliced o p s) ≡ length o
   length-splice = simp (length-append, length-take, length-drop) (omega arith)
+
+pub wrote-none : {A : Type 0} (o : List A) (p : ℕ) → Wrote o o p [] p
+wrote-none o p room = (omega arith, sym (splice-none o p))
+
+pub wrote-both : {A : Type 0} (o m n : List A) (p q r : ℕ) (s t : List A) → Wrote o m p s q → Wrote m n q t r → Wrote o n p (s ++ t) r
+wrote-both o m n p q r s t first second room =
+    let l = length-append s t in
+    let fits : p + length s ≤ length o = omega arith in
+    let (eq, em) = first fits in
+    let long : length m ≡ length o = ap length em ∙ length-splice o p s fits in
+    let (er, en) = second (omega arith) in
+    (omega arith, en ∙ ap (λ x. spliced x q t) em ∙ splice-both o p s fits t q eq)
