@@ -8,6 +8,8 @@ ghost use Rattle.documents.specs.declared.nodes.Node.the-variants.{Element};
 ghost use Rattle.documents.specs.Limits.{max-document};
 ghost use Rattle.documents.specs.Built.{Ready, Onward, ReadsNumber, BuildsList, BuildsItem, BuildsText};
 ghost use Rattle.documents.specs.Answers.{ReadInto, WritesBack};
+ghost use Rattle.documents.specs.Grammar.{Texts-are-unambiguous};
+ghost use Rattle.documents.specs.Reading.{Reading-is-one, Read-is-spelled};
 use super::faults::ReadFault;
 use super::nodes::MAX_DOCUMENT;
 use super::nodes::MAX_NODES;
@@ -141,6 +143,9 @@ fn build(text: &[u8], nodes: &mut [Node])
 pub fn read_document(text: &[u8], nodes: &mut [Node]) -> Result<usize, ReadFault>
     ensures read { λ r. ⌜ ReadInto (now (text .entry)) (now (nodes .entry)) (now (nodes .exit)) r ⌝ }
     ensures back { λ r. ⌜ WritesBack (now (text .entry)) (now (nodes .exit)) r ⌝ }
+    ensures one { λ _. ⌜ Reading-is-one ⌝ }
+    ensures whole { λ _. ⌜ Read-is-spelled ⌝ }
+    ensures plain { λ _. ⌜ Texts-are-unambiguous ⌝ }
 {
     if text.len() > MAX_DOCUMENT {
         return Err(ReadFault::TooLong);

@@ -12,8 +12,12 @@ ghost use Rattle.forms.specs.Splices.{Wrote};
 ghost use Rattle.forms.specs.Documents.{Document};
 ghost use Rattle.documents.specs.Grammar.{spelled-document};
 ghost use Rattle.documents.specs.Nodes.{SoundAt, Sound, StandsFor};
-ghost use Rattle.documents.specs.Writing.{Unsound};
 ghost use Rattle.documents.specs.Spelling.{rest, Shaped};
+ghost use Rattle.documents.specs.Answers.{WrittenInto, ReadsBack};
+ghost use Rattle.documents.specs.Writing.{Unsound, Writing-documents-is-one};
+use super::faults::WriteFault;
+use super::nodes::MAX_DOCUMENT;
+use super::nodes::MAX_NODES;
 use super::nodes::Node;
 use forms::MAX_ROWS;
 
@@ -153,5 +157,26 @@ fn write(nodes: &[Node], k: u16, out: &mut [u8], place: usize) -> usize
             let comma = put(out, shut, b',');
             write(nodes, following, out, comma)
         }
+    }
+}
+
+// Writes the document that the node `root` stands for as text at the front of a buffer, and answers the text's length.
+pub fn write_document(nodes: &[Node], root: usize, buffer: &mut [u8]) -> Result<usize, WriteFault>
+    ensures written { λ r. ⌜ WrittenInto (now (nodes .entry)) root (now (buffer .entry)) (now (buffer .exit)) r ⌝ }
+    ensures back { λ r. ⌜ ReadsBack (now (nodes .entry)) root (now (buffer .exit)) r ⌝ }
+    ensures one { λ _. ⌜ Writing-documents-is-one ⌝ }
+{
+    if nodes.len() > MAX_NODES {
+        return Err(WriteFault::ManyNodes);
+    }
+    if let Some(node) = unsound(nodes) {
+        return Err(WriteFault::Unsound { node });
+    }
+    if root >= nodes.len() {
+        return Err(WriteFault::RootOutside);
+    }
+    match measure(nodes, root as u16, buffer.len().min(MAX_DOCUMENT)) {
+        Some(_) => Ok(write(nodes, root as u16, buffer, 0)),
+        None => Err(WriteFault::TooLong),
     }
 }
