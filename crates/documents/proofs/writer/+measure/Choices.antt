@@ -1,0 +1,4 @@
+use Rattle.documents.proofs.writer.+measure.Given as given
+
+abbrev pub μ-measure : given.MeasureT-measure
+μ-measure l = l .k
