@@ -4,7 +4,10 @@ use mathlib.Core.List.{List, [], _∷_, _++_}
 use Prim.Native.Nat.{ℕ, min, _-_, _<_, _≤_}
 use native.Mathlib.Omega.{arith}
 use native.Mathlib.Nat.{zero-add}
+use mathlib.Core.Bool.{true, false}
+use lib.Dec.{ltb}
 use lib.ListN.{length, take, drop}
+use Rattle.std.proofs.shelf.Tests.{ltb-true, ltb-false}
 use Rattle.std.specs.declared.result.Result.{Result}
 use Rattle.std.specs.declared.result.Result.the-variants.{Ok, Err}
 use Rattle.std.proofs.shelf.Lists.{take-at}
@@ -42,11 +45,12 @@ module _ (bytes : List ℕ) (before : List Node) (short : length bytes ≤ max-d
   pub read-deep : (k : ℕ) → JudgedAs bytes (Deep k) → ReadInto bytes before before (Err (TooDeep k))
   read-deep k (lowest, on) = (is-deep short lowest on, refl)
 
-  pub read-large : (n room : ℕ) → JudgedAs bytes (Whole n) → room ≡ min (length before) max-nodes → room < n → ReadInto bytes before before (Err TooManyNodes)
-  read-large n room (d, t, none, is) e large = (is-large d short t none (omega arith), refl)
+  pub read-large : (n : ℕ) → JudgedAs bytes (Whole n) → true ≡ ltb (min (length before) max-nodes) n → ReadInto bytes before before (Err TooManyNodes)
+  read-large n (d, t, none, is) e = let large = ltb-true (min (length before) max-nodes) n (sym e) in (is-large d short t none (omega arith), refl)
 
-  pub read-done : (n room : ℕ) (after : List Node) → JudgedAs bytes (Whole n) → room ≡ min (length before) max-nodes → n ≤ room → BuildsText bytes before after → ReadInto bytes before after (Ok n)
-  read-done n room after (d, t, none, is) e fits builds =
+  pub read-done : (n : ℕ) (after : List Node) → JudgedAs bytes (Whole n) → false ≡ ltb (min (length before) max-nodes) n → BuildsText bytes before after → ReadInto bytes before after (Ok n)
+  read-done n after (d, t, none, is) e builds =
+      let fits = ltb-false (min (length before) max-nodes) n (sym e) in
       let (h, spelled) = texts-are-spelled bytes d .0 t in
       (d, is-read short t none (omega arith), is, builds d h spelled (omega arith) ∙ ap (λ k. nodes-of d ++ drop k before) (sym is))
 

@@ -1,11 +1,12 @@
 // Reading document text into a table of nodes.
 ghost use mathlib.Core.Path.{_≡_};
 ghost use mathlib.Core.Bool.{cond};
-ghost use Prim.Native.Nat.{ℕ, _+_, _<_, _≤_};
+ghost use Prim.Native.Nat.{ℕ, min, _+_, _<_, _≤_};
+ghost use lib.Dec.{ltb};
 ghost use lib.ListN.{length, getD, set};
 ghost use Rattle.std.specs.Options.{Cases as BySome};
 ghost use Rattle.documents.specs.declared.nodes.Node.the-variants.{Element};
-ghost use Rattle.documents.specs.Limits.{max-document};
+ghost use Rattle.documents.specs.Limits.{max-nodes, max-document};
 ghost use Rattle.documents.specs.Built.{Ready, Onward, ReadsNumber, BuildsList, BuildsItem, BuildsText};
 ghost use Rattle.documents.specs.Answers.{ReadInto, WritesBack};
 ghost use Rattle.documents.specs.Grammar.{Texts-are-unambiguous};
@@ -138,6 +139,13 @@ fn build(text: &[u8], nodes: &mut [Node])
     }
 }
 
+// Whether there is no room for so many nodes in a buffer, or in any table.
+fn too_many(count: usize, buffer: usize) -> bool
+    ensures { λ r. ⌜ r ≡ ltb (min buffer max-nodes) count ⌝ }
+{
+    count > buffer.min(MAX_NODES)
+}
+
 // Reads a text into the front of a buffer of nodes, and answers how many they are. Node 0 is void; an element's inside nodes come
 // first, then its following nodes, then its own; the last is the root.
 pub fn read_document(text: &[u8], nodes: &mut [Node]) -> Result<usize, ReadFault>
@@ -154,7 +162,7 @@ pub fn read_document(text: &[u8], nodes: &mut [Node]) -> Result<usize, ReadFault
         Judgement::Wrong(place) => Err(ReadFault::Wrong { place }),
         Judgement::Deep(place) => Err(ReadFault::TooDeep { place }),
         Judgement::Text(count) => {
-            if count > nodes.len().min(MAX_NODES) {
+            if too_many(count, nodes.len()) {
                 return Err(ReadFault::TooManyNodes);
             }
             build(text, nodes);

@@ -17,10 +17,10 @@ returns-in-Wrong c = record { read = read-wrong (c .args .text .now) (c .args .n
 pub returns-in-Deep : need.returns-in-Deep
 returns-in-Deep c = record { read = read-deep (c .args .text .now) (c .args .nodes .now) (c .if-text-gt-MAX-DOCUMENT .left) (c .in-Deep .place) (c .in-Deep .ensures tt); back = tt; one = reading-is-one; whole = read-is-spelled; plain = texts-are-unambiguous }
 
-pub returns-then-count-min : need.returns-then-count-min
-returns-then-count-min c = record { read = read-large (c .args .text .now) (c .args .nodes .now) (c .if-text-gt-MAX-DOCUMENT .left) (c .in-Text .count) (c .min .result) (c .in-Text .ensures tt) (c .min .ensures) (c .if-count-min .taken); back = tt; one = reading-is-one; whole = read-is-spelled; plain = texts-are-unambiguous }
+pub returns-then-too-many : need.returns-then-too-many
+returns-then-too-many c = record { read = read-large (c .args .text .now) (c .args .nodes .now) (c .if-text-gt-MAX-DOCUMENT .left) (c .in-Text .count) (c .in-Text .ensures tt) (c .if-too-many .ensures tt); back = tt; one = reading-is-one; whole = read-is-spelled; plain = texts-are-unambiguous }
 
-pub returns-else-count-min : need.returns-else-count-min
-returns-else-count-min c =
-    let done = read-done (c .args .text .now) (c .args .nodes .now) (c .if-text-gt-MAX-DOCUMENT .left) (c .in-Text .count) (c .min .result) (c .build .last .nodes) (c .in-Text .ensures tt) (c .min .ensures) (c .if-count-min .left) (c .build .ensures) in
+pub returns-else-too-many : need.returns-else-too-many
+returns-else-too-many c =
+    let done = read-done (c .args .text .now) (c .args .nodes .now) (c .if-text-gt-MAX-DOCUMENT .left) (c .in-Text .count) (c .build .last .nodes) (c .in-Text .ensures tt) (c .if-too-many .ensures tt) (c .build .ensures) in
     record { read = done; back = written-back (c .args .text .now) (c .args .nodes .now) (c .build .last .nodes) (Ok (c .in-Text .count)) done; one = reading-is-one; whole = read-is-spelled; plain = texts-are-unambiguous }
