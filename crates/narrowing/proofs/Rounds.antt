@@ -10,7 +10,7 @@ use lib.ListN.{length}
 use Rattle.std.proofs.shelf.Tests.{cases-eq, cases-lt, eq-eqb, ne-eqb, both-ways}
 use Rattle.sets.specs.Sets.{member, tally, word}
 use Rattle.sets.proofs.Members.{member-within}
-use Rattle.sets.proofs.Tallies.{tally-part, tally-fewer}
+use Rattle.sets.proofs.Tallies.{tally-fewer}
 use Rattle.narrowing.specs.Narrowing.{Within, Lawful, Stands, Narrowed, Round}
 
 -- what a round has done with the places before i

@@ -4,7 +4,7 @@ use mathlib.Core.Logic.{_⊎_, inl, inr, ⊎-elim}
 use mathlib.Core.Bool.{Bool, true, false, _&&_}
 use Prim.Native.Nat.{ℕ, zero, suc, _+_, _<_, _≤_}
 use native.Mathlib.Omega.{arith}
-use Rattle.std.proofs.shelf.Tests.{both-ways, and-parts, and-from, and-cases, cases-bool, cases-eq, cases-lt}
+use Rattle.std.proofs.shelf.Tests.{both-ways, and-parts, and-from, and-cases, cases-bool, cases-lt}
 use Rattle.sets.specs.Sets.{tally}
 use Rattle.sets.proofs.Tallies.{tally-fewer, tally-le}
 use Rattle.narrowing.specs.Narrowing.{Within, Lawful, Stands, Narrowed}

@@ -8,22 +8,20 @@ use native.Mathlib.Omega.{arith}
 use lib.Bits.{bitOr}
 use lib.ListN.{length, getD, set, length-set}
 use Rattle.std.specs.shelf.Maps.{nth}
-use Rattle.std.specs.declared.option.Option.{Option}
-use Rattle.std.specs.declared.option.Option.the-variants.{Some, None}
+use Rattle.std.specs.declared.option.Option.the-variants.{Some}
 use Rattle.std.proofs.shelf.Lists.{getD-set-same, getD-set-other}
-use Rattle.std.proofs.shelf.Maps.{nth-past}
 use Rattle.std.proofs.shelf.Tests.{cases-lt, cases-eq, both-ways, or-cases, or-parts, or-right}
 use Rattle.sets.specs.Sets.{bit, member, tally, word, top}
 use Rattle.sets.proofs.Words.{bit-or}
 use Rattle.sets.proofs.Members.{member-at, member-past}
-use Rattle.sets.proofs.Tallies.{tally-part, tally-le}
+use Rattle.sets.proofs.Tallies.{tally-part}
 use Rattle.sets.proofs.Wider.{wider-within, wider-grows}
 use Rattle.forms.specs.Limits.{max-rows}
 use Rattle.forms.specs.declared.Row.{Row}
 use Rattle.forms.specs.declared.Row.the-variants.{Void, Nothing, Channel, Element, Union}
-use Rattle.forms.specs.Schema.{Offers, NoUnion}
-use Rattle.forms.specs.Schema.Offers.{itself, left, right}
-use Rattle.relation.specs.Cells.{cell, side-left, side-right, Sound, Holds-leaves, Settled, Grown, RowAdded, Spread}
+use Rattle.forms.specs.Schema.{Offers}
+use Rattle.forms.specs.Schema.Offers.{left, right}
+use Rattle.relation.specs.Cells.{cell, side-left, side-right, Sound, Settled, Grown, RowAdded, Spread}
 
 -- how many words a row's set takes
 abbrev row-words : ℕ

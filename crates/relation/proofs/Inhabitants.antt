@@ -1,7 +1,7 @@
 -- The rows that narrowing by the rule of barren rows strikes are the inhabited ones. Assumes nothing.
-use mathlib.Core.Path.{_≡_, refl, sym, ap, subst, _∙_}
+use mathlib.Core.Path.{_≡_, refl, sym, ap, _∙_}
 use mathlib.Core.List.{List}
-use mathlib.Core.Logic.{_⊎_, inl, inr, ⊎-elim}
+use mathlib.Core.Logic.{_⊎_, ⊎-elim}
 use mathlib.Core.Bool.{Bool, true, false, not, cond, _&&_, _||_}
 use Prim.Native.Nat.{ℕ, _+_, _*_, _≤_, _<_}
 use native.Mathlib.Omega.{arith}
@@ -11,7 +11,7 @@ use Rattle.std.specs.Orderings.{Decides}
 use Rattle.std.specs.shelf.Maps.{nth}
 use Rattle.std.specs.declared.option.Option.{Option}
 use Rattle.std.specs.declared.option.Option.the-variants.{Some, None}
-use Rattle.std.proofs.shelf.Tests.{cases-lt, cases-eq, both-ways, or-cases, or-parts, and-parts, and-from, and-cases, cases-bool, lt-ltb, le-ltb, ltb-true, eqb-true, eqb-false, eq-eqb, ne-eqb, not-true, not-false, not-from-true, not-from-false}
+use Rattle.std.proofs.shelf.Tests.{cases-lt, cases-eq, both-ways, or-cases, or-parts, and-parts, and-from, and-cases, cases-bool, lt-ltb, le-ltb, ltb-true, eqb-true, eqb-false, eq-eqb, ne-eqb, not-true, not-false, not-from-false}
 use Rattle.std.proofs.shelf.Ways.{tells}
 use Rattle.sets.specs.Sets.{bit, member, word, top}
 use Rattle.sets.proofs.Lowest.{bit-zero}
@@ -24,7 +24,7 @@ use Rattle.forms.specs.declared.Row.{Row}
 use Rattle.forms.specs.declared.Row.the-variants.{Void, Nothing, Channel, Element, Union}
 use Rattle.forms.specs.Schema.{Inhabited}
 use Rattle.forms.specs.Schema.Inhabited.{of-void, of-channel, of-element, of-left, of-right}
-use Rattle.relation.specs.Barren.{lacks, barren-row, barren-at, barren, barren-lawful}
+use Rattle.relation.specs.Barren.{lacks, barren-at, barren, barren-lawful}
 use Rattle.relation.proofs.Reaching.{nth-below, zeros-none}
 
 -- a label set with a label is not empty

@@ -1,18 +1,15 @@
 -- Rows with numbers outside, and why there is one fault at most. Assumes nothing.
-use mathlib.Core.Path.{_≡_, refl, sym, ap, subst, _∙_}
+use mathlib.Core.Path.{_≡_, refl, ap, subst}
 use mathlib.Core.List.{List, [], _∷_}
 use mathlib.Core.Logic.{_⊎_, inl, inr, ⊎-elim}
-use mathlib.Core.Bool.{Bool, true, false}
-use Prim.Native.Nat.{ℕ, _+_, _≤_, _<_}
+use Prim.Native.Nat.{ℕ, _+_, _<_}
 use native.Mathlib.Omega.{arith}
 use lib.ListN.{length}
-use Rattle.std.specs.Orderings.{Decides}
 use Rattle.std.specs.shelf.Maps.{nth}
-use Rattle.std.specs.declared.option.Option.{Option}
-use Rattle.std.specs.declared.option.Option.the-variants.{Some, None}
+use Rattle.std.specs.declared.option.Option.the-variants.{Some}
 use Rattle.std.specs.declared.result.Result.{Result}
 use Rattle.std.specs.declared.result.Result.the-variants.{Ok, Err}
-use Rattle.std.proofs.shelf.Tests.{cases-lt, cases-order, both-ways}
+use Rattle.std.proofs.shelf.Tests.{cases-lt, cases-order}
 use Rattle.forms.specs.Places.{Nowhere, NoneBelow, Lowest}
 use Rattle.forms.specs.Refusals.{Refusal}
 use Rattle.forms.specs.Refusals.Refusal.{refusal}
@@ -27,7 +24,7 @@ use Rattle.relation.specs.Admission.{Outside, SharesLabel, Admitted, Finds, Ad
 use Rattle.relation.specs.Admission.Finds.{no-rows, number-outside, label-twice}
 use Rattle.relation.specs.Faults.{admission-refusal}
 use Rattle.relation.specs.Judged.{Judged}
-use Rattle.relation.proofs.Reaching.{never, nth-below}
+use Rattle.relation.proofs.Reaching.{nth-below}
 
 pub outside-below : (rows : List Row) (p : ℕ) → Outside rows p → p < length rows
 outside-below rows p (row, is, _) = nth-below rows p row is

@@ -1,8 +1,8 @@
 -- Label sets that meet, and the labels that a row gives, one offered row after another. Assumes nothing.
-use mathlib.Core.Path.{_≡_, refl, sym, ap, subst, _∙_}
+use mathlib.Core.Path.{_≡_, sym, ap, subst, _∙_}
 use mathlib.Core.List.{List}
-use mathlib.Core.Logic.{_⊎_, inl, inr, ⊎-elim}
-use mathlib.Core.Bool.{Bool, true, false, not, _&&_, _||_}
+use mathlib.Core.Logic.{_⊎_, ⊎-elim}
+use mathlib.Core.Bool.{true, not}
 use Prim.Native.Nat.{ℕ, _+_, _≤_, _<_}
 use native.Mathlib.Omega.{arith}
 use lib.Bits.{bitAnd, bitOr}
@@ -10,9 +10,8 @@ use lib.Dec.{eqb}
 use lib.ListN.{length}
 use Rattle.std.specs.Orderings.{Decides}
 use Rattle.std.specs.shelf.Maps.{nth}
-use Rattle.std.specs.declared.option.Option.{Option}
-use Rattle.std.specs.declared.option.Option.the-variants.{Some, None}
-use Rattle.std.proofs.shelf.Tests.{cases-lt, cases-eq, both-ways, or-cases, or-left, or-right, and-parts, and-from, eqb-false, ne-eqb, not-true, not-from-false}
+use Rattle.std.specs.declared.option.Option.the-variants.{Some}
+use Rattle.std.proofs.shelf.Tests.{cases-lt, both-ways, or-cases, or-left, or-right, and-parts, and-from, eqb-false, ne-eqb, not-true, not-from-false}
 use Rattle.sets.specs.Sets.{bit}
 use Rattle.sets.proofs.Words.{bit-and, bit-or}
 use Rattle.sets.proofs.Lowest.{bit-zero}
@@ -23,7 +22,7 @@ use Rattle.forms.specs.declared.Row.the-variants.{Void, Nothing, Channel, Eleme
 use Rattle.forms.specs.Schema.{Offers, Inhabited}
 use Rattle.relation.specs.Admission.{Gives, SharesLabel}
 use Rattle.relation.specs.Faults.{labels-of}
-use Rattle.relation.proofs.Reaching.{never, nth-below}
+use Rattle.relation.proofs.Reaching.{nth-below}
 
 pub meets-decides : (a b : ℕ) → Decides (not (eqb (bitAnd a b) 0)) ((x : ℕ) × (belongs x a ≡ true) × (belongs x b ≡ true))
 meets-decides a b = (

@@ -1,17 +1,15 @@
 -- The sets of rows that are reached when nothing grows any more are what the rows offer. Assumes nothing.
-use mathlib.Core.Path.{_≡_, refl, sym, ap, subst, _∙_}
+use mathlib.Core.Path.{_≡_, sym, ap, subst, _∙_}
 use mathlib.Core.List.{List}
 use mathlib.Core.Logic.{inl, inr, ⊎-elim}
 use mathlib.Core.Bool.{Bool, true, false, _||_}
 use Prim.Native.Nat.{ℕ, _+_, _-_, _*_, _/_, _%_, _≤_, _<_}
 use native.Mathlib.Omega.{arith}
 use lib.Dec.{eqb}
-use lib.ListN.{length, getD, replicate, length-replicate, getD-replicate}
+use lib.ListN.{length, replicate, length-replicate, getD-replicate}
 use Rattle.std.specs.Orderings.{Decides}
 use Rattle.std.specs.shelf.Maps.{nth}
-use Rattle.std.specs.declared.option.Option.{Option}
-use Rattle.std.specs.declared.option.Option.the-variants.{Some, None}
-use Rattle.std.proofs.shelf.Lists.{getD-past}
+use Rattle.std.specs.declared.option.Option.the-variants.{Some}
 use Rattle.std.proofs.shelf.Maps.{nth-past}
 use Rattle.std.proofs.shelf.Tests.{cases-lt, both-ways, or-cases, or-left, or-right, eqb-true, eq-eqb}
 use Rattle.sets.specs.Sets.{bit, member, tally, word, top}
@@ -20,10 +18,10 @@ use Rattle.sets.proofs.Members.{member-at, member-top, member-past}
 use Rattle.sets.proofs.Tallies.{tally-le}
 use Rattle.forms.specs.Limits.{max-rows}
 use Rattle.forms.specs.declared.Row.{Row}
-use Rattle.forms.specs.declared.Row.the-variants.{Void, Nothing, Channel, Element, Union}
+use Rattle.forms.specs.declared.Row.the-variants.{Union}
 use Rattle.forms.specs.Schema.{Offers, NoUnion}
 use Rattle.forms.specs.Schema.Offers.{itself, left, right}
-use Rattle.relation.specs.Cells.{cell, Sound, Holds-leaves, Settled, Spread}
+use Rattle.relation.specs.Cells.{cell, Sound, Holds-leaves, Spread}
 
 pub never : {A : Type 0} → _≡_ {A = ℕ} 0 1 → A
 never e = absurd (omega arith)

@@ -57,6 +57,7 @@ pub fn meets(a: u64, b: u64) -> bool
     a & b != 0
 }
 
+// The label set of an element row; of another row the empty one.
 fn element_labels(row: Row) -> u64
     ensures { λ r. ⌜ r ≡ labels-of row ⌝ }
 {
@@ -122,6 +123,7 @@ fn sharing(rows: &[Row], analysis: &Analysis) -> Option<u8>
     None
 }
 
+// The same as `admit`, of the rows of a slice.
 fn admit_rows(rows: &[Row]) -> Result<Analysis, AdmissionFault>
     requires { ⌜ length (now rows) ≤ max-rows ⌝ }
     ensures { λ r. ⌜ Judged (now (rows .entry)) r ⌝ }

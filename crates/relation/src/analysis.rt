@@ -41,6 +41,7 @@ impl Analysis {
     }
 }
 
+// What is worked out from the rows of a slice.
 pub(crate) fn analyze_rows(rows: &[Row]) -> Analysis
     requires { ⌜ length (now rows) ≤ max-rows ⌝ }
     ensures { λ r. ⌜ Analyzed (now (rows .entry)) r ⌝ }

@@ -85,6 +85,7 @@ fn others(count: usize, set: &[u64]) -> [u64; ROW_WORDS]
     rest
 }
 
+// The rows that some document fits.
 pub(crate) fn inhabited_rows(rows: &[Row]) -> [u64; ROW_WORDS]
     requires { ⌜ length (now rows) ≤ max-rows ⌝ }
     ensures { λ r. ⌜ ((p : ℕ) → Decides (member r p) (Inhabited (now (rows .entry)) p)) ⌝ }

@@ -5,8 +5,6 @@ ghost use Prim.Native.Nat.{ℕ, _*_, _<_, _≤_};
 ghost use lib.Bits.{bitOr};
 ghost use lib.ListN.{length};
 ghost use Rattle.std.specs.Orderings.{Decides};
-ghost use Rattle.std.specs.shelf.Maps.{nth};
-ghost use Rattle.std.specs.declared.option.Option.the-variants.{Some};
 ghost use Rattle.sets.specs.Sets.{word, bit};
 ghost use Rattle.forms.specs.Limits.{max-rows};
 ghost use Rattle.forms.specs.Schema.{Offers, NoUnion};
@@ -21,6 +19,7 @@ pub const ROW_WORDS: usize = MAX_ROWS / sets::WORD;
 // And a set of rows for each row has so many.
 pub const CELL_WORDS: usize = MAX_ROWS * ROW_WORDS;
 
+// Whether the row is no union.
 fn is_leaf(row: Row) -> bool
     ensures { λ r. ⌜ Decides r (NoUnion row) ⌝ }
 {
@@ -99,6 +98,7 @@ fn spread(rows: &[Row], cells: &mut [u64]) -> bool
     grown
 }
 
+// For each row the rows that it offers.
 pub(crate) fn offered_rows(rows: &[Row]) -> [u64; CELL_WORDS]
     requires { ⌜ length (now rows) ≤ max-rows ⌝ }
     ensures { λ r. ⌜ ((p o : ℕ) → p < max-rows → o < max-rows → Decides (cell r p o) (Offers (now (rows .entry)) p o)) ⌝ }

@@ -1,5 +1,5 @@
 // Narrowing by a rule of the tests' own: places stand in rings of eight, and one stays if the next of its ring is in the set.
-ghost use Prim.Native.Nat.{ℕ, _+_, _*_, _/_, _%_};
+ghost use Prim.Native.Nat.{_+_, _*_, _/_, _%_};
 use narrowing::Rule;
 use narrowing::narrow;
 use sets;

@@ -1,5 +1,5 @@
 -- Members, by the bits that are held. Assumes nothing.
-use mathlib.Core.Path.{_≡_, refl, sym, ap, _∙_}
+use mathlib.Core.Path.{_≡_, refl, ap, _∙_}
 use mathlib.Core.List.{List}
 use mathlib.Core.Logic.{⊎-elim}
 use mathlib.Core.Bool.{Bool, true, false, cond, _||_, _&&_}
@@ -9,7 +9,7 @@ use lib.Bits.{bitOr, bitXor}
 use lib.Dec.{eqb, ltb}
 use lib.ListN.{length, getD, set}
 use Rattle.std.proofs.shelf.Lists.{getD-past}
-use Rattle.std.proofs.shelf.Tests.{cases-lt, lt-ltb, le-ltb, eqb-true, ltb-true, both-ways, and-parts}
+use Rattle.std.proofs.shelf.Tests.{cases-lt, lt-ltb, le-ltb, eqb-true, both-ways, and-parts}
 use Rattle.sets.specs.Sets.{bit, held, member, word, top}
 use Rattle.sets.proofs.Words.{held-by, held-put, held-remove}
 use Rattle.sets.proofs.Lowest.{bit-zero}
@@ -23,7 +23,7 @@ unfolding member
 member-top words k h = ap (λ b. b && held words k) (le-ltb k top h)
 
 pub held-past : (words : List ℕ) (k : ℕ) → word * length words ≤ k → held words k ≡ false
-held-past words k h = held-by words k 0 (getD-past words (k / 64) 0 (omega arith)) ∙ bit-zero (k % 64)
+held-past words k h = held-by words k 0 (getD-past words (k / word) 0 (omega arith)) ∙ bit-zero (k % word)
 
 pub member-past : (words : List ℕ) (k : ℕ) → word * length words ≤ k → member words k ≡ false
 member-past words k h = ⊎-elim (λ low. member-is words k low ∙ held-past words k h) (member-top words k) (cases-lt k top)
@@ -53,14 +53,14 @@ and-cond false true x = refl
 and-cond false false x = refl
 
 pub member-put : (words : List ℕ) (k : ℕ) → k < word * length words → k < top → (j : ℕ)
-    → member (set words (k / 64) (bitOr (getD words (k / 64) 0) ((1 * 2 ^ (k % 64)) % 2 ^ 64))) j ≡ (eqb j k || member words j)
+    → member (set words (k / word) (bitOr (getD words (k / word) 0) ((1 * 2 ^ (k % word)) % 2 ^ word))) j ≡ (eqb j k || member words j)
 unfolding member
 member-put words k h low j =
     ap (λ b. ltb j top && b) (held-put words k h j)
     ∙ and-or (ltb j top) (eqb j k) (held words j) (λ e. let same = eqb-true j k e in lt-ltb j top (omega arith))
 
 pub member-remove : (words : List ℕ) (k : ℕ) → member words k ≡ true → (j : ℕ)
-    → member (set words (k / 64) (bitXor (getD words (k / 64) 0) ((1 * 2 ^ (k % 64)) % 2 ^ 64))) j ≡ cond (eqb j k) false (member words j)
+    → member (set words (k / word) (bitXor (getD words (k / word) 0) ((1 * 2 ^ (k % word)) % 2 ^ word))) j ≡ cond (eqb j k) false (member words j)
 unfolding member
 member-remove words k there j =
     let (h, low) = member-within words k there in

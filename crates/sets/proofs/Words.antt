@@ -1,20 +1,19 @@
 -- Bits of a word, and of a word that is written. Assumes nothing.
 use mathlib.Core.Path.{_≡_, refl, sym, ap, subst, _∙_}
-use mathlib.Core.List.{List, [], _∷_}
+use mathlib.Core.List.{List}
 use mathlib.Core.Logic.{_⊎_, inl, inr, ⊎-elim, _≢_}
 use mathlib.Core.Bool.{Bool, true, false, cond, _||_, _&&_}
-use Prim.Native.Nat.{ℕ, zero, suc, _+_, _-_, _*_, _/_, _%_, _^_, _≤_, _<_}
-use native.Mathlib.Nat.{pow-suc, div-eq-of-lt, mul-mod-left}
-use native.Mathlib.Numerals.{add-one}
+use Prim.Native.Nat.{ℕ, _+_, _-_, _*_, _/_, _%_, _^_, _<_}
+use native.Mathlib.Nat.{div-eq-of-lt}
 use native.Mathlib.Omega.{arith}
 use lib.Bits.{bitAnd, and-shr, and-mod, bitOr, or-shr, or-mod, bitXor, xor-shr, xor-mod}
 use lib.Dec.{eqb}
-use lib.Pow.{pow-add, pow-pos, pow-lt, shl-shr}
+use lib.Pow.{pow-add, pow-lt, shl-shr}
 use lib.ListN.{length, getD, set}
 use Rattle.std.proofs.shelf.Tests.{cases-eq, cases-order, eq-eqb, ne-eqb}
 use Rattle.std.proofs.shelf.Lists.{getD-set-same, getD-set-other}
 use Rattle.std.proofs.shelf.Bits.{one-shl}
-use Rattle.sets.specs.Sets.{bit, held}
+use Rattle.sets.specs.Sets.{word, bit, held}
 
 half : (n : ℕ) → (n % 2 ≡ 0) ⊎ (n % 2 ≡ 1)
 half n = ⊎-elim (λ e. inl e) (λ e. inr (omega arith)) (cases-eq (n % 2) 0)
@@ -58,28 +57,28 @@ bit-pow b k = ⊎-elim
     (cases-order k b)
 
 -- a set whose words are as said has the members as said
-pub held-by : (words : List ℕ) (k w : ℕ) → getD words (k / 64) 0 ≡ w → held words k ≡ bit w (k % 64)
-held-by words k w e = ap (λ x. bit x (k % 64)) e
+pub held-by : (words : List ℕ) (k w : ℕ) → getD words (k / word) 0 ≡ w → held words k ≡ bit w (k % word)
+held-by words k w e = ap (λ x. bit x (k % word)) e
 
-pub held-put : (words : List ℕ) (k : ℕ) → k < 64 * length words → (j : ℕ)
-    → held (set words (k / 64) (bitOr (getD words (k / 64) 0) ((1 * 2 ^ (k % 64)) % 2 ^ 64))) j ≡ (eqb j k || held words j)
+pub held-put : (words : List ℕ) (k : ℕ) → k < word * length words → (j : ℕ)
+    → held (set words (k / word) (bitOr (getD words (k / word) 0) ((1 * 2 ^ (k % word)) % 2 ^ word))) j ≡ (eqb j k || held words j)
 held-put words k h j =
-    let low : k % 64 < 64 = omega arith in
-    let within : k / 64 < length words = omega arith in
-    let one = one-shl (k % 64) 64 low in
-    let w = getD words (k / 64) 0 in
+    let low : k % word < word = omega arith in
+    let within : k / word < length words = omega arith in
+    let one = one-shl (k % word) word low in
+    let w = getD words (k / word) 0 in
     rw one (⊎-elim
     (λ e.
-    let same : getD (set words (k / 64) (bitOr w (2 ^ (k % 64)))) (j / 64) 0 ≡ bitOr w (2 ^ (k % 64)) = rw e (getD-set-same words (k / 64) (bitOr w (2 ^ (k % 64))) 0 within) in
-    let place : eqb (j % 64) (k % 64) ≡ eqb j k = ⊎-elim (λ p. eq-eqb (j % 64) (k % 64) p ∙ sym (eq-eqb j k (omega arith))) (λ p. ne-eqb (j % 64) (k % 64) p ∙ sym (ne-eqb j k (λ x. p (ap (λ y. y % 64) x)))) (cases-eq (j % 64) (k % 64)) in
-    held-by _ j _ same ∙ bit-or w (2 ^ (k % 64)) (j % 64) ∙ or-swap (bit w (j % 64)) (bit (2 ^ (k % 64)) (j % 64))
-    ∙ ap (λ x. x || bit w (j % 64)) (bit-pow (k % 64) (j % 64) ∙ place)
+    let same : getD (set words (k / word) (bitOr w (2 ^ (k % word)))) (j / word) 0 ≡ bitOr w (2 ^ (k % word)) = rw e (getD-set-same words (k / word) (bitOr w (2 ^ (k % word))) 0 within) in
+    let place : eqb (j % word) (k % word) ≡ eqb j k = ⊎-elim (λ p. eq-eqb (j % word) (k % word) p ∙ sym (eq-eqb j k (omega arith))) (λ p. ne-eqb (j % word) (k % word) p ∙ sym (ne-eqb j k (λ x. p (ap (λ y. y % word) x)))) (cases-eq (j % word) (k % word)) in
+    held-by _ j _ same ∙ bit-or w (2 ^ (k % word)) (j % word) ∙ or-swap (bit w (j % word)) (bit (2 ^ (k % word)) (j % word))
+    ∙ ap (λ x. x || bit w (j % word)) (bit-pow (k % word) (j % word) ∙ place)
     ∙ ap (λ x. eqb j k || x) (sym (held-by words j w (ap (λ x. getD words x 0) e))))
     (λ ne.
-    let off : j ≢ k = λ x. ne (ap (λ y. y / 64) x) in
-    held-by _ j _ (getD-set-other words (k / 64) (j / 64) (bitOr w (2 ^ (k % 64))) 0 ne)
+    let off : j ≢ k = λ x. ne (ap (λ y. y / word) x) in
+    held-by _ j _ (getD-set-other words (k / word) (j / word) (bitOr w (2 ^ (k % word))) 0 ne)
     ∙ sym (ap (λ x. x || held words j) (ne-eqb j k off) ∙ held-by words j _ refl))
-    (cases-eq (j / 64) (k / 64)))
+    (cases-eq (j / word) (k / word)))
   where
     or-swap : (x y : Bool) → (x || y) ≡ (y || x)
     or-swap true true = refl
@@ -114,30 +113,30 @@ differ-on true false e f = sym f
 differ-on false true e f = sym e
 differ-on false false e f = refl
 
-pub held-remove : (words : List ℕ) (k : ℕ) → k < 64 * length words → held words k ≡ true → (j : ℕ)
-    → held (set words (k / 64) (bitXor (getD words (k / 64) 0) ((1 * 2 ^ (k % 64)) % 2 ^ 64))) j ≡ cond (eqb j k) false (held words j)
+pub held-remove : (words : List ℕ) (k : ℕ) → k < word * length words → held words k ≡ true → (j : ℕ)
+    → held (set words (k / word) (bitXor (getD words (k / word) 0) ((1 * 2 ^ (k % word)) % 2 ^ word))) j ≡ cond (eqb j k) false (held words j)
 held-remove words k h there j =
-    let low : k % 64 < 64 = omega arith in
-    let within : k / 64 < length words = omega arith in
-    let one = one-shl (k % 64) 64 low in
-    let w = getD words (k / 64) 0 in
-    let new = bitXor w (2 ^ (k % 64)) in
+    let low : k % word < word = omega arith in
+    let within : k / word < length words = omega arith in
+    let one = one-shl (k % word) word low in
+    let w = getD words (k / word) 0 in
+    let new = bitXor w (2 ^ (k % word)) in
     rw one (⊎-elim
     (λ e.
-    let same : getD (set words (k / 64) new) (j / 64) 0 ≡ new = rw e (getD-set-same words (k / 64) new 0 within) in
-    let old : held words j ≡ bit w (j % 64) = held-by words j w (ap (λ x. getD words x 0) e) in
-    let start = held-by _ j _ same ∙ bit-xor w (2 ^ (k % 64)) (j % 64) in
+    let same : getD (set words (k / word) new) (j / word) 0 ≡ new = rw e (getD-set-same words (k / word) new 0 within) in
+    let old : held words j ≡ bit w (j % word) = held-by words j w (ap (λ x. getD words x 0) e) in
+    let start = held-by _ j _ same ∙ bit-xor w (2 ^ (k % word)) (j % word) in
     ⊎-elim
     (λ p.
     let jk : j ≡ k = omega arith in
-    start ∙ differ-on (bit w (j % 64)) (bit (2 ^ (k % 64)) (j % 64)) (sym old ∙ ap (held words) jk ∙ there) (bit-pow (k % 64) (j % 64) ∙ eq-eqb (j % 64) (k % 64) p)
+    start ∙ differ-on (bit w (j % word)) (bit (2 ^ (k % word)) (j % word)) (sym old ∙ ap (held words) jk ∙ there) (bit-pow (k % word) (j % word) ∙ eq-eqb (j % word) (k % word) p)
     ∙ sym (ap (λ x. cond x false (held words j)) (eq-eqb j k jk)))
     (λ p.
-    start ∙ differ-off (bit w (j % 64)) (bit (2 ^ (k % 64)) (j % 64)) (bit-pow (k % 64) (j % 64) ∙ ne-eqb (j % 64) (k % 64) p) ∙ sym old
-    ∙ sym (ap (λ x. cond x false (held words j)) (ne-eqb j k (λ x. p (ap (λ y. y % 64) x)))))
-    (cases-eq (j % 64) (k % 64)))
+    start ∙ differ-off (bit w (j % word)) (bit (2 ^ (k % word)) (j % word)) (bit-pow (k % word) (j % word) ∙ ne-eqb (j % word) (k % word) p) ∙ sym old
+    ∙ sym (ap (λ x. cond x false (held words j)) (ne-eqb j k (λ x. p (ap (λ y. y % word) x)))))
+    (cases-eq (j % word) (k % word)))
     (λ ne.
-    let off : j ≢ k = λ x. ne (ap (λ y. y / 64) x) in
-    held-by _ j _ (getD-set-other words (k / 64) (j / 64) new 0 ne)
+    let off : j ≢ k = λ x. ne (ap (λ y. y / word) x) in
+    held-by _ j _ (getD-set-other words (k / word) (j / word) new 0 ne)
     ∙ sym (ap (λ x. cond x false (held words j)) (ne-eqb j k off) ∙ held-by words j _ refl))
-    (cases-eq (j / 64) (k / 64)))
+    (cases-eq (j / word) (k / word)))

@@ -1,6 +1,6 @@
 // Sets of numbers, kept as bits of 64-bit words.
 ghost use mathlib.Core.Path.{_≡_};
-ghost use mathlib.Core.Bool.{_||_, true, false, cond};
+ghost use mathlib.Core.Bool.{_||_, false, cond};
 ghost use mathlib.Core.Logic.{_⊎_};
 ghost use Prim.Native.Nat.{ℕ, _*_, _<_, _≤_};
 ghost use lib.Dec.{eqb};

@@ -1,10 +1,8 @@
-use mathlib.Core.Path.{sym, subst}
 use native.Mathlib.Omega.{arith}
-use lib.ListN.{length, getD}
+use lib.ListN.{getD}
 use Rattle.std.proofs.shelf.Maps.{nth-getD}
 use Rattle.std.proofs.shelf.Tests.{both-ways}
 use Rattle.forms.specs.declared.Row.the-variants.{Void}
-use Rattle.forms.specs.Rows.{NumbersBelow}
 use Rattle.relation.specs.Admission.{Outside}
 use Rattle.relation.proofs.Judging.{outside-below, none-more, not-outside}
 use Rattle.relation.proofs.admission.outside.Needs as need

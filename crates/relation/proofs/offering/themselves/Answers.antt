@@ -1,16 +1,18 @@
 use mathlib.Core.Path.{refl, sym, subst}
-use Prim.Native.Nat.{_+_}
+use Prim.Native.Nat.{_+_, _*_, _/_}
 use native.Mathlib.Omega.{arith}
 use lib.ListN.{getD}
 use Rattle.std.proofs.shelf.Maps.{nth-getD}
 use Rattle.std.proofs.shelf.Tests.{both-ways}
+use Rattle.sets.specs.Sets.{word}
+use Rattle.forms.specs.Limits.{max-rows}
 use Rattle.forms.specs.declared.Row.the-variants.{Void}
 use Rattle.relation.proofs.Reaching.{Leafing, leafing-none, leafing-past, leafing-more, leafing-all}
 use Rattle.relation.proofs.offering.themselves.Needs as need
 use Rattle.relation.proofs.offering.themselves.Needs.{then-is-leaf, else-is-leaf}
 
 pub loop-p-holds : need.loop-p-holds
-loop-p-holds c = leafing-none (c .args .rows .now) 64 refl
+loop-p-holds c = leafing-none (c .args .rows .now) (max-rows * (max-rows / word)) refl
 
 pub loop-p-again : need.loop-p-again
 loop-p-again c =
