@@ -14,10 +14,11 @@ use Rattle.forms.specs.declared.Row.the-variants.{Void, Nothing, Channel, Eleme
 use Rattle.texts.specs.RowText.{kind, field-1, field-2, field-3, spelled-row, spelled, Proper, from-stop, RightFields, FirstWrong, RightLines, Judged, Judgement-is-one, Right-is-spelled, Spelled-is-short}
 use Rattle.forms.specs.Limits.{max-rows}
 use Rattle.forms.specs.Refusals.{Outcome}
-use Rattle.forms.specs.Refusals.Refusal.{refusal}
 use Rattle.forms.specs.Refusals.Outcome.{refuses, gives}
 use Rattle.forms.specs.Rows.{NumbersBelow}
+use Rattle.texts.specs.declared.TextFault.the-variants.{TooLong, WrongLine, TooManyLines}
 use Rattle.texts.specs.declared.kinds.Kind.{Kind}
+use Rattle.texts.specs.Faults.{text-refusal}
 use Rattle.texts.specs.Limits.{max-text, label-digits}
 use Rattle.texts.specs.RowText.Judged.{is-long, is-wrong, is-more, is-right}
 use Rattle.texts.proofs.Findings.{never}
@@ -123,14 +124,14 @@ module _ (bytes : List ℕ) where
   judge room n [] e short ls =
       let (rows, l, all, es) = lines-rows n bytes [] ls in
       (gives rows, is-right short (omega arith) (rw l ls) all (es ∙ append-nil (spelled rows)))
-  judge zero n (b ∷ rest) e short ls = let h : n ≡ max-rows = omega arith in (refuses (refusal 3 []), is-more b rest short (rw h at ls))
+  judge zero n (b ∷ rest) e short ls = let h : n ≡ max-rows = omega arith in (refuses (text-refusal TooManyLines), is-more b rest short (rw h at ls))
   judge (suc room) n (b ∷ rest) e short ls = ⊎-elim
-      (λ (f, first). (refuses (refusal 2 (n ∷ f ∷ [])), is-wrong b rest short (omega arith) ls first))
+      (λ (f, first). (refuses (text-refusal (WrongLine n f)), is-wrong b rest short (omega arith) ls first))
       (λ (k, rest′, fs). judge room (suc n) rest′ (omega arith) short (b ∷ rest, k, ls, fs))
       (line-or-wrong (b ∷ rest))
 
   judged : (o : Outcome (List Row)) × Judged bytes o
-  judged = ⊎-elim (λ long. (refuses (refusal 1 []), is-long long)) (λ short. judge max-rows 0 bytes (omega arith) short refl) (cases-lt max-text (length bytes))
+  judged = ⊎-elim (λ long. (refuses (text-refusal TooLong), is-long long)) (λ short. judge max-rows 0 bytes (omega arith) short refl) (cases-lt max-text (length bytes))
 
   -- what may not hold of one text
   before-end : (m n b : ℕ) (rest : List ℕ) → RightLines m bytes [] → RightLines n bytes (b ∷ rest) → n < m

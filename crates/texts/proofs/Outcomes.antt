@@ -14,9 +14,10 @@ use Rattle.forms.specs.declared.Row.the-variants.{Void, Nothing, Channel, Eleme
 use Rattle.forms.specs.Limits.{max-rows}
 use Rattle.forms.specs.Places.{Nowhere, Lowest}
 use Rattle.forms.specs.Refusals.{Outcome}
-use Rattle.forms.specs.Refusals.Refusal.{refusal}
 use Rattle.forms.specs.Refusals.Outcome.{refuses, gives}
 use Rattle.forms.specs.Rows.{NumbersBelow, Labelled}
+use Rattle.texts.specs.declared.RowsFault.the-variants.{NumberOver as number-over, NoRoom}
+use Rattle.texts.specs.Faults.{rows-refusal}
 use Rattle.texts.specs.RowText.{spelled, Proper}
 use Rattle.texts.specs.Writing.{NumberOver, WritesRows, Writing-rows-is-one, Written-rows-are-right, Right-rows-are-written}
 use Rattle.texts.specs.Writing.WritesRows.{is-over, is-long, is-written}
@@ -63,13 +64,13 @@ faulty xs P test = ⊎-elim
 module _ (room : ℕ) (rows : List Row) where
   writes-rows : (o : Outcome (List ℕ)) × WritesRows room rows o
   writes-rows = ⊎-elim
-      (λ (k, lowest). (refuses (refusal 4 (k ∷ [])), is-over lowest))
+      (λ (k, lowest). (refuses (rows-refusal (number-over k)), is-over lowest))
       (λ all. let none = λ (k : ℕ) (f : NumberOver rows k). f .2 (all k (f .0) (f .1)) in
-      ⊎-elim (λ long. (refuses (refusal 5 []), is-long none long)) (λ fit. (gives (spelled rows), is-written none fit)) (cases-lt room (length (spelled rows))))
+      ⊎-elim (λ long. (refuses (rows-refusal NoRoom), is-long none long)) (λ fit. (gives (spelled rows), is-written none fit)) (cases-lt room (length (spelled rows))))
       (faulty rows (λ _. NumbersBelow max-rows) (λ _. numbered-or-not))
 
   same-rows : {o p : Outcome (List ℕ)} → WritesRows room rows o → WritesRows room rows p → p ≡ o
-  same-rows (is-over {k} low) (is-over {k = j} low′) = ap (λ n. refuses (refusal 4 (n ∷ []))) (lowest-one (NumberOver rows) j k low′ low)
+  same-rows (is-over {k} low) (is-over {k = j} low′) = ap (λ n. refuses (rows-refusal (number-over n))) (lowest-one (NumberOver rows) j k low′ low)
   same-rows (is-over {k} low) (is-long none l) = absurd (none k (low .0))
   same-rows (is-over {k} low) (is-written none l) = absurd (none k (low .0))
   same-rows (is-long none l) (is-over {k} low) = absurd (none k (low .0))

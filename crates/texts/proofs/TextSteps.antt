@@ -12,9 +12,10 @@ use Rattle.std.proofs.shelf.Tests.{cond-true, lt-ltb}
 use Rattle.forms.specs.declared.Row.{Row}
 use Rattle.forms.specs.Limits.{max-rows}
 use Rattle.forms.specs.Refusals.{Outcome}
-use Rattle.forms.specs.Refusals.Refusal.{refusal}
 use Rattle.forms.specs.Refusals.Outcome.{refuses, gives}
 use Rattle.forms.specs.Buffers.{pushed}
+use Rattle.texts.specs.declared.TextFault.the-variants.{TooLong, WrongLine, TooManyLines}
+use Rattle.texts.specs.Faults.{text-refusal}
 use Rattle.texts.specs.Limits.{max-text}
 use Rattle.texts.specs.RowText.{spelled-row, spelled, Proper, FirstWrong, RightLines, Judged}
 use Rattle.texts.specs.RowText.Judged.{is-wrong, is-more}
@@ -46,12 +47,12 @@ right-so-far : (bytes : List ℕ) (place n : ℕ) (rows : List Row) → ReadTo b
 right-so-far bytes place n rows going = subst (λ k. RightLines k bytes (drop place bytes)) (going .count)
     (subst (λ t. RightLines (length rows) t (drop place bytes)) (sym (going .spelt)) (lines-of-rows rows (going .proper) (drop place bytes)))
 
-pub read-wrong : (bytes : List ℕ) (place n f : ℕ) (rows : List Row) → ReadTo bytes place n rows → length bytes ≤ max-text → place < length bytes → (n ≡ max-rows → ⊥) → FirstWrong f (drop place bytes) → Judged bytes (refuses (refusal 2 (n ∷ f ∷ [])))
+pub read-wrong : (bytes : List ℕ) (place n f : ℕ) (rows : List Row) → ReadTo bytes place n rows → length bytes ≤ max-text → place < length bytes → (n ≡ max-rows → ⊥) → FirstWrong f (drop place bytes) → Judged bytes (refuses (text-refusal (WrongLine n f)))
 read-wrong bytes place n f rows going short l room wrong =
     let d = drop-more bytes place 0 l in
     is-wrong (getD bytes place 0) (drop (place + 1) bytes) short (omega (arith, going .few, room)) (subst (RightLines n bytes) d (right-so-far bytes place n rows going)) (subst (FirstWrong f) d wrong)
 
-pub read-over : (bytes : List ℕ) (place n : ℕ) (rows : List Row) → ReadTo bytes place n rows → length bytes ≤ max-text → place < length bytes → n ≡ max-rows → Judged bytes (refuses (refusal 3 []))
+pub read-over : (bytes : List ℕ) (place n : ℕ) (rows : List Row) → ReadTo bytes place n rows → length bytes ≤ max-text → place < length bytes → n ≡ max-rows → Judged bytes (refuses (text-refusal TooManyLines))
 read-over bytes place n rows going short l e =
     let right : RightLines max-rows bytes (drop place bytes) = subst (λ k. RightLines k bytes (drop place bytes)) e (right-so-far bytes place n rows going) in
     is-more (getD bytes place 0) (drop (place + 1) bytes) short (subst (RightLines max-rows bytes) (drop-more bytes place 0 l) right)

@@ -14,7 +14,8 @@ use Rattle.texts.specs.declared.RowsFault.the-variants.{NumberOver, NoRoom}
 use Rattle.texts.specs.RowText.{spelled, Judged}
 use Rattle.texts.specs.Writing.{WritesRows, Lays}
 use Rattle.texts.specs.Writing.WritesRows.{is-over, is-long, is-written}
-use Rattle.texts.specs.Faults.{rows-refusal, TotalFound, RowsWritten}
+use Rattle.texts.specs.Faults.{rows-refusal}
+use Rattle.texts.specs.Calls.{TotalFound, RowsWritten}
 use Rattle.texts.proofs.Laying.{laid-front}
 use Rattle.texts.proofs.Outcomes.{written-rows-are-right}
 

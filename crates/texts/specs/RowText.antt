@@ -14,11 +14,12 @@ use Rattle.forms.specs.declared.Capability.{Capability}
 use Rattle.forms.specs.declared.Capability.the-variants.{In, Out, Both}
 use Rattle.forms.specs.Limits.{max-rows}
 use Rattle.forms.specs.Refusals.{Outcome}
-use Rattle.forms.specs.Refusals.Refusal.{refusal}
 use Rattle.forms.specs.Refusals.Outcome.{refuses, gives}
 use Rattle.forms.specs.Rows.{NumbersBelow, Labelled}
+use Rattle.texts.specs.declared.TextFault.the-variants.{TooLong, WrongLine, TooManyLines}
 use Rattle.texts.specs.declared.kinds.Kind.{Kind}
 use Rattle.texts.specs.declared.kinds.Kind.the-variants.{Void as void, Nothing as nothing, Channel as channel, Element as element, Union as union}
+use Rattle.texts.specs.Faults.{text-refusal}
 use Rattle.texts.specs.Limits.{max-text, label-digits}
 
 -- the letters of the kinds: V, N, C, E, U
@@ -148,14 +149,14 @@ abbrev pub RightLines : ℕ → List ℕ → List ℕ → Type 0
 RightLines zero bytes rest = bytes ≡ rest
 RightLines (suc n) bytes rest = (between : List ℕ) × (k : Kind) × RightLines n bytes between × RightFields k 4 between rest
 
--- How a text is judged: refusal 1; 2 with the line and the field; 3; or the rows that it means.
+-- How a text is judged: a fault, or the rows that it means.
 pub data Judged (bytes : List ℕ) : Outcome (List Row) → Type 0 where
   -- more than 1,600 bytes
-  is-long : max-text < length bytes → Judged bytes (refuses (refusal 1 []))
+  is-long : max-text < length bytes → Judged bytes (refuses (text-refusal TooLong))
   -- after n right lines a line begins, and f is its first wrong field
-  is-wrong : {n f : ℕ} (b : ℕ) (rest : List ℕ) → length bytes ≤ max-text → n < max-rows → RightLines n bytes (b ∷ rest) → FirstWrong f (b ∷ rest) → Judged bytes (refuses (refusal 2 (n ∷ f ∷ [])))
+  is-wrong : {n f : ℕ} (b : ℕ) (rest : List ℕ) → length bytes ≤ max-text → n < max-rows → RightLines n bytes (b ∷ rest) → FirstWrong f (b ∷ rest) → Judged bytes (refuses (text-refusal (WrongLine n f)))
   -- after 64 right lines a line begins
-  is-more : (b : ℕ) (rest : List ℕ) → length bytes ≤ max-text → RightLines max-rows bytes (b ∷ rest) → Judged bytes (refuses (refusal 3 []))
+  is-more : (b : ℕ) (rest : List ℕ) → length bytes ≤ max-text → RightLines max-rows bytes (b ∷ rest) → Judged bytes (refuses (text-refusal TooManyLines))
   -- at most 64 lines, all of them right: the text means the rows that it spells
   is-right : {rows : List Row} → length bytes ≤ max-text → length rows ≤ max-rows → RightLines (length rows) bytes [] → All Proper rows → bytes ≡ spelled rows → Judged bytes (gives rows)
 

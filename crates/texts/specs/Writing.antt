@@ -10,21 +10,22 @@ use Rattle.forms.specs.declared.Row.{Row}
 use Rattle.forms.specs.Limits.{max-rows}
 use Rattle.forms.specs.Places.{Nowhere, Lowest}
 use Rattle.forms.specs.Refusals.{Outcome}
-use Rattle.forms.specs.Refusals.Refusal.{refusal}
 use Rattle.forms.specs.Refusals.Outcome.{refuses, gives}
 use Rattle.forms.specs.Rows.{NumbersBelow, Labelled}
+use Rattle.texts.specs.declared.RowsFault.the-variants.{NumberOver as number-over, NoRoom}
+use Rattle.texts.specs.Faults.{rows-refusal}
 use Rattle.texts.specs.RowText.{spelled, Judged}
 
 -- row k has a number over 63
 abbrev pub NumberOver : List Row → ℕ → Type 0
 NumberOver rows k = (r : Row) × (nth rows k ≡ Some r) × (NumbersBelow max-rows r → ⊥)
 
--- What writing rows into so much room does: refusal 4 with the row; 5; or the text, which then fills the front of the buffer.
+-- What writing rows into so much room gives: a fault, or the text, which then fills the front of the buffer.
 pub data WritesRows (room : ℕ) (rows : List Row) : Outcome (List ℕ) → Type 0 where
   -- k is the lowest row with a number over 63
-  is-over : {k : ℕ} → Lowest (NumberOver rows) k → WritesRows room rows (refuses (refusal 4 (k ∷ [])))
+  is-over : {k : ℕ} → Lowest (NumberOver rows) k → WritesRows room rows (refuses (rows-refusal (number-over k)))
   -- a text longer than the buffer
-  is-long : Nowhere (NumberOver rows) → room < length (spelled rows) → WritesRows room rows (refuses (refusal 5 []))
+  is-long : Nowhere (NumberOver rows) → room < length (spelled rows) → WritesRows room rows (refuses (rows-refusal NoRoom))
   is-written : Nowhere (NumberOver rows) → length (spelled rows) ≤ room → WritesRows room rows (gives (spelled rows))
 
 -- Every call has exactly one outcome.

@@ -118,7 +118,7 @@ fn put_third(out: &mut [u8], place: usize, row: Row) -> usize
 }
 
 // Writes the line of a row.
-pub fn put_row(out: &mut [u8], place: usize, row: Row) -> usize
+pub(crate) fn put_row(out: &mut [u8], place: usize, row: Row) -> usize
     requires below { ⌜ NumbersBelow max-rows row ⌝ }
     requires room { ⌜ place + (5 + (length (field-1 row) + (length (field-2 row) + length (field-3 row)))) ≤ length (now out) ⌝ }
     ensures { λ r. ⌜ Lays (spelled-row row) (now (out .entry)) (now (out .exit)) place r ⌝ }

@@ -9,14 +9,14 @@ use super::values;
 use forms::Capability;
 
 // What a field can say: a kind, a capability, a label set (u64), a row number (u8), or nothing.
-pub trait Value: Sized {
+pub(crate) trait Value: Sized {
     ghost spells: { List ℕ → Self → Type 0 };
 
     fn parse(field: &[u8]) -> Option<Self>
         ensures { λ r. ⌜ Told (spells (now (field .entry))) r ⌝ };
 }
 
-pub impl Value for Kind as KindValue {
+pub(crate) impl Value for Kind as KindValue {
     ghost spells = { OfKind };
 
     fn parse(field: &[u8]) -> Option<Kind> {
@@ -24,7 +24,7 @@ pub impl Value for Kind as KindValue {
     }
 }
 
-pub impl Value for u8 as NumberValue {
+pub(crate) impl Value for u8 as NumberValue {
     ghost spells = { OfNumber };
 
     fn parse(field: &[u8]) -> Option<u8> {
@@ -32,7 +32,7 @@ pub impl Value for u8 as NumberValue {
     }
 }
 
-pub impl Value for Capability as CapabilityValue {
+pub(crate) impl Value for Capability as CapabilityValue {
     ghost spells = { OfCapability };
 
     fn parse(field: &[u8]) -> Option<Capability> {
@@ -40,7 +40,7 @@ pub impl Value for Capability as CapabilityValue {
     }
 }
 
-pub impl Value for u64 as LabelsValue {
+pub(crate) impl Value for u64 as LabelsValue {
     ghost spells = { OfLabels };
 
     fn parse(field: &[u8]) -> Option<u64> {
@@ -48,7 +48,7 @@ pub impl Value for u64 as LabelsValue {
     }
 }
 
-pub impl Value for () as BlankValue {
+pub(crate) impl Value for () as BlankValue {
     ghost spells = { OfBlank };
 
     fn parse(field: &[u8]) -> Option<()> {
@@ -88,7 +88,7 @@ fn find_end(text: &[u8], start: usize, number: usize) -> Option<usize>
 }
 
 // The value of a field of a line and the place behind its end; the field's number if it is wrong.
-pub fn read<T: Value>(text: &[u8], start: usize, number: usize) -> Result<(T, usize), usize>
+pub(crate) fn read<T: Value>(text: &[u8], start: usize, number: usize) -> Result<(T, usize), usize>
     ensures { λ r. ⌜ FieldRead (T·Value .spells) (now (text .entry)) start number r ⌝ }
 {
     match find_end(text, start, number) {

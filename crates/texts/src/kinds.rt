@@ -1,6 +1,6 @@
 // The kinds of rows.
 #[derive(Clone, Copy)]
-pub enum Kind {
+pub(crate) enum Kind {
     Void,
     Nothing,
     Channel,

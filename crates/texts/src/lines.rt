@@ -58,7 +58,7 @@ fn union_fields(text: &[u8], start: usize) -> Result<(Row, usize), usize>
 }
 
 // The row of the line that begins at `start` and the place behind the line, or its first wrong field.
-pub fn line(text: &[u8], start: usize) -> Result<(Row, usize), usize>
+pub(crate) fn line(text: &[u8], start: usize) -> Result<(Row, usize), usize>
     ensures { λ r. ⌜ LineRead (now (text .entry)) start r ⌝ }
 {
     let (kind, first) = fields::read(text, start, 0)?;

@@ -5,7 +5,7 @@ ghost use Rattle.forms.specs.declared.Row.{Row};
 ghost use Rattle.forms.specs.Laws.{buffer-laws};
 ghost use Rattle.forms.specs.Refusals.{Outcome};
 ghost use Rattle.texts.specs.RowText.{Judged, Judgement-is-one, Right-is-spelled, Spelled-is-short};
-ghost use Rattle.texts.specs.Faults.{text-rows, checked, WritesBack, spelled-by};
+ghost use Rattle.texts.specs.Calls.{text-rows, checked, WritesBack, spelled-by};
 use super::MAX_TEXT;
 use super::RowText;
 use super::TextFault;

@@ -9,7 +9,7 @@ use forms::Capability;
 use forms::MAX_ROWS;
 
 // How many hexadecimal digits a label set has.
-pub const LABEL_DIGITS: usize = 16;
+pub(crate) const LABEL_DIGITS: usize = 16;
 
 // The one byte of a field that has just one.
 fn single(field: &[u8]) -> Option<u8>
@@ -35,7 +35,7 @@ fn kind_letter(byte: u8) -> Option<Kind>
     }
 }
 
-pub fn kind(field: &[u8]) -> Option<Kind>
+pub(crate) fn kind(field: &[u8]) -> Option<Kind>
     ensures { λ r. ⌜ Told (OfKind (now (field .entry))) r ⌝ }
 {
     kind_letter(single(field)?)
@@ -52,7 +52,7 @@ fn capability_letter(byte: u8) -> Option<Capability>
     }
 }
 
-pub fn capability(field: &[u8]) -> Option<Capability>
+pub(crate) fn capability(field: &[u8]) -> Option<Capability>
     ensures { λ r. ⌜ Told (OfCapability (now (field .entry))) r ⌝ }
 {
     capability_letter(single(field)?)
@@ -68,7 +68,7 @@ fn digit(byte: u8) -> Option<u8>
 }
 
 // A row number: one digit, or two of which the first is not 0.
-pub fn number(field: &[u8]) -> Option<u8>
+pub(crate) fn number(field: &[u8]) -> Option<u8>
     ensures { λ r. ⌜ Told (OfNumber (now (field .entry))) r ⌝ }
 {
     match field.len() {
@@ -98,7 +98,7 @@ fn hex_value(byte: u8) -> Option<u8>
 }
 
 // A label set: sixteen hexadecimal digits.
-pub fn labels(field: &[u8]) -> Option<u64>
+pub(crate) fn labels(field: &[u8]) -> Option<u64>
     ensures { λ r. ⌜ Told (OfLabels (now (field .entry))) r ⌝ }
 {
     if field.len() != LABEL_DIGITS {

@@ -10,7 +10,7 @@ ghost use Rattle.forms.specs.Places.{Nowhere};
 ghost use Rattle.forms.specs.Rows.{NumbersBelow};
 ghost use Rattle.texts.specs.RowText.{spelled-row, spelled};
 ghost use Rattle.texts.specs.Writing.{NumberOver, Lays, Writing-rows-is-one, Written-rows-are-right};
-ghost use Rattle.texts.specs.Faults.{TotalFound, RowsWritten, ReadsBack};
+ghost use Rattle.texts.specs.Calls.{TotalFound, RowsWritten, ReadsBack};
 use super::RowsFault;
 use super::bytes;
 use super::values::LABEL_DIGITS;

@@ -1,5 +1,5 @@
 use mathlib.Core.Path.{ap, _∙_}
-use Rattle.texts.specs.Faults.{spelled-by}
+use Rattle.texts.specs.Calls.{spelled-by}
 use Rattle.texts.proofs.Judging.{one-outcome}
 use Rattle.texts.proofs.RowText.new.Needs as need
 
