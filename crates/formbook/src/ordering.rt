@@ -12,40 +12,40 @@ fn print_spaces(rt: &LibcRuntime, count: usize) -> Result<(), AnyError> {
     Ok(())
 }
 
-// The document of node k, a line for each element and reference, what is inside an element two deeper.
+// The document of a node, a line for each element and reference, what is inside an element two deeper.
 pub fn print_tree(
     rt: &LibcRuntime,
     nodes: &[Node],
-    k: usize,
+    root: usize,
     indent: usize,
 ) -> Result<(), AnyError> {
-    if k >= nodes.len() {
-        return Ok(());
-    }
-    match nodes[k] {
-        Node::Void => Ok(()),
-        Node::Reference(row) => {
-            print_spaces(rt, indent)?;
-            println!(rt, "the address of row {row}")?;
-            Ok(())
-        }
-        Node::Element {
-            label,
-            inside,
-            following,
-        } => {
-            print_spaces(rt, indent)?;
-            println!(rt, "element {label}")?;
-            let (first, second) = (inside as usize, following as usize);
-            if first < k {
-                print_tree(rt, nodes, first, indent.saturating_add(2))?;
+    let mut k = root;
+    while k < nodes.len() {
+        match nodes[k] {
+            Node::Void => return Ok(()),
+            Node::Reference(row) => {
+                print_spaces(rt, indent)?;
+                println!(rt, "the address of row {row}")?;
+                return Ok(());
             }
-            if second < k {
-                print_tree(rt, nodes, second, indent)?;
+            Node::Element {
+                label,
+                inside,
+                following,
+            } => {
+                print_spaces(rt, indent)?;
+                println!(rt, "element {label}")?;
+                if (inside as usize) < k {
+                    print_tree(rt, nodes, inside as usize, indent.saturating_add(2))?;
+                }
+                if following as usize >= k {
+                    return Ok(());
+                }
+                k = following as usize;
             }
-            Ok(())
         }
     }
+    Ok(())
 }
 
 fn print_nodes(rt: &LibcRuntime, nodes: &[Node]) -> Result<(), AnyError> {
