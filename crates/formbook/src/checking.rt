@@ -44,7 +44,7 @@ fn print_table(rt: &LibcRuntime, table: &RowText, analysis: &Analysis) -> Result
 }
 
 // Reads a table from a file; if that fails, says why.
-pub fn load(rt: &LibcRuntime, path: &str) -> Result<Option<RowText>, AnyError> {
+pub(crate) fn load(rt: &LibcRuntime, path: &str) -> Result<Option<RowText>, AnyError> {
     let bytes = match fs::read(rt, path) {
         Ok(bytes) => bytes,
         Err(error) => {
@@ -82,7 +82,7 @@ fn check_one(rt: &LibcRuntime, path: &str) -> Result<bool, AnyError> {
 }
 
 // Each table in turn; answers whether all are admitted.
-pub fn check(rt: &LibcRuntime, paths: &[String]) -> Result<bool, AnyError> {
+pub(crate) fn check(rt: &LibcRuntime, paths: &[String]) -> Result<bool, AnyError> {
     let mut all = true;
     for path in paths {
         let admitted = check_one(rt, path.as_str())?;

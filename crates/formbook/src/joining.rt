@@ -60,7 +60,7 @@ fn join_tables(
 }
 
 // The words are two tables, and --turn if the second is to be turned.
-pub fn join(rt: &LibcRuntime, words: &[String]) -> Result<bool, AnyError> {
+pub(crate) fn join(rt: &LibcRuntime, words: &[String]) -> Result<bool, AnyError> {
     let (Some(ours), Some(theirs)) = (words.get(0), words.get(1)) else {
         return Ok(false);
     };

@@ -13,7 +13,7 @@ fn print_spaces(rt: &LibcRuntime, count: usize) -> Result<(), AnyError> {
 }
 
 // The document of a node, a line for each element and reference, what is inside an element two deeper.
-pub fn print_tree(
+pub(crate) fn print_tree(
     rt: &LibcRuntime,
     nodes: &[Node],
     root: usize,
@@ -110,7 +110,7 @@ fn print_fault(rt: &LibcRuntime, text: &str, fault: ReadFault) -> Result<(), Any
 }
 
 // The word is the order's text; without a word, the empty order.
-pub fn order(rt: &LibcRuntime, words: &[String]) -> Result<bool, AnyError> {
+pub(crate) fn order(rt: &LibcRuntime, words: &[String]) -> Result<bool, AnyError> {
     let text = match words.first() {
         Some(word) => word.as_str(),
         None => "",

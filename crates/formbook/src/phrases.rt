@@ -34,7 +34,7 @@ fn print_labels(rt: &LibcRuntime, labels: u64) -> Result<(), AnyError> {
     Ok(())
 }
 
-pub fn print_row(rt: &LibcRuntime, row: Row) -> Result<(), AnyError> {
+pub(crate) fn print_row(rt: &LibcRuntime, row: Row) -> Result<(), AnyError> {
     match row {
         Row::Void => print!(rt, "void: the empty document")?,
         Row::Nothing => print!(rt, "nothing: no document")?,
@@ -71,7 +71,7 @@ fn field_word(field: usize) -> &'static str {
     }
 }
 
-pub fn print_text_fault(rt: &LibcRuntime, fault: TextFault) -> Result<(), AnyError> {
+pub(crate) fn print_text_fault(rt: &LibcRuntime, fault: TextFault) -> Result<(), AnyError> {
     let number = fault.number();
     match fault {
         TextFault::TooLong => println!(
@@ -93,7 +93,7 @@ pub fn print_text_fault(rt: &LibcRuntime, fault: TextFault) -> Result<(), AnyErr
     Ok(())
 }
 
-pub fn print_rows_fault(rt: &LibcRuntime, fault: RowsFault) -> Result<(), AnyError> {
+pub(crate) fn print_rows_fault(rt: &LibcRuntime, fault: RowsFault) -> Result<(), AnyError> {
     let number = fault.number();
     match fault {
         RowsFault::NumberOver { row } => println!(
@@ -108,7 +108,7 @@ pub fn print_rows_fault(rt: &LibcRuntime, fault: RowsFault) -> Result<(), AnyErr
     Ok(())
 }
 
-pub fn print_admission_fault(rt: &LibcRuntime, fault: AdmissionFault) -> Result<(), AnyError> {
+pub(crate) fn print_admission_fault(rt: &LibcRuntime, fault: AdmissionFault) -> Result<(), AnyError> {
     let number = fault.number();
     match fault {
         AdmissionFault::NoRows => println!(
