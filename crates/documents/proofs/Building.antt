@@ -20,7 +20,7 @@ use Rattle.documents.specs.declared.reader.Reached.{Reached}
 use Rattle.documents.specs.Grammar.{comma-before, spelled-document, Small}
 use Rattle.documents.specs.Nodes.{size, root, nodes-from, nodes-of}
 use Rattle.documents.specs.Built.{NoDigit, Closing, Built, ReadsNumber, BuildsList, BuildsItem, BuildsText}
-use Rattle.texts.proofs.Findings.{never}
+use Rattle.forms.proofs.Findings.{never}
 use Rattle.documents.proofs.Tables.{length-nodes}
 use Rattle.documents.proofs.Texts.{closing-no-digit, element-bytes}
 use Rattle.texts.proofs.Numbers.{Figures, figures}

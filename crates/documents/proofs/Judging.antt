@@ -26,7 +26,7 @@ use Rattle.documents.specs.Grammar.{comma-before, spelled-document, Small, lev
 use Rattle.documents.specs.Scan.{may-end, step, scan, goes-on, is-whole}
 use Rattle.documents.specs.Nodes.{size, nodes-of}
 use Rattle.documents.specs.Judged.{marks, JudgedAs}
-use Rattle.texts.proofs.Findings.{never}
+use Rattle.forms.proofs.Findings.{never}
 use Rattle.texts.proofs.Numbers.{Figures, figures}
 use Rattle.texts.proofs.Numbers.Figures.{one, two}
 use Rattle.documents.proofs.Texts.{texts-are-spelled}

@@ -26,7 +26,7 @@ use Rattle.forms.specs.Refusals.Outcome.{gives}
 use Rattle.documents.specs.Limits.{max-nodes, max-document, max-levels}
 use Rattle.documents.specs.Reading.{Reads, Levels-are-opened, Read-is-spelled}
 use Rattle.documents.specs.Reading.Reads.{is-read}
-use Rattle.texts.proofs.Findings.{never}
+use Rattle.forms.proofs.Findings.{never}
 use Rattle.texts.proofs.Numbers.{Figures, figures}
 use Rattle.texts.proofs.Numbers.Figures.{one, two}
 use Rattle.documents.proofs.Texts.{texts-are-spelled}

@@ -23,7 +23,7 @@ use Rattle.forms.specs.Refusals.Outcome.{refuses, gives}
 use Rattle.documents.specs.Limits.{max-nodes, max-document, max-levels}
 use Rattle.documents.specs.Reading.{Reads, Reading-is-one}
 use Rattle.documents.specs.Reading.Reads.{is-long, is-wrong, is-deep, is-large, is-read}
-use Rattle.texts.proofs.Findings.{Decided, both-or-not, least-below, lowest-one}
+use Rattle.forms.proofs.Findings.{Decided, both-or-not, least-below, lowest-one}
 use Rattle.documents.proofs.Texts.{texts-are-unambiguous}
 use Rattle.documents.proofs.Scanning.{scan-tells-texts, scan-tells-going-on}
 

@@ -27,10 +27,9 @@ use Rattle.documents.specs.Nodes.{SoundAt, Sound, StandsFor}
 use Rattle.documents.specs.Nodes.StandsFor.{for-void, for-reference, for-element}
 use Rattle.documents.specs.Writing.{Unsound}
 use Rattle.documents.specs.Spelling.{rest, Shaped}
-use Rattle.texts.proofs.Findings.{never}
+use Rattle.forms.proofs.Findings.{never, nth-below}
 use Rattle.texts.proofs.Numbers.{Figures, figures}
 use Rattle.texts.proofs.Numbers.Figures.{one, two}
-use Rattle.documents.proofs.Tables.{nth-below}
 
 -- NODES
 pub of-void : {nodes : List Node} {k : ℕ} {x : Document} → nth nodes k ≡ Some Void → StandsFor nodes k x → x ≡ void

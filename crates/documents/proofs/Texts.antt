@@ -13,7 +13,7 @@ use Rattle.forms.specs.Documents.Document.{void, reference, element}
 use Rattle.documents.specs.Grammar.Text.{empty, a-list}
 use Rattle.documents.specs.Grammar.Listed.{a-reference, an-element, and-more}
 use Rattle.documents.specs.Grammar.Bracketed.{brackets}
-use Rattle.texts.proofs.Findings.{never}
+use Rattle.forms.proofs.Findings.{never}
 use Rattle.texts.proofs.Numbers.{Figures, figures}
 use Rattle.texts.proofs.Numbers.Figures.{one, two}
 

@@ -22,39 +22,15 @@ use Rattle.documents.specs.Nodes.{SoundAt, Sound, StandsFor, nodes-of}
 use Rattle.documents.specs.Nodes.StandsFor.{for-void, for-reference, for-element}
 use Rattle.documents.specs.Writing.{Read-is-written-back, Unsound, WritesDocument, Writing-documents-is-one}
 use Rattle.documents.specs.Writing.WritesDocument.{is-many, is-unsound, is-outside, is-long, is-written}
-use Rattle.texts.proofs.Findings.{never, Decided, both-or-not, least-below, lowest-one}
-use Rattle.documents.proofs.Tables.{nth-below, stands-one, nodes-stand-for-one, nodes-stand-for-documents}
+use Rattle.forms.proofs.Findings.{Decided, both-or-not, below-or-not, lowest-one, nth-below, faulty}
+use Rattle.documents.proofs.Tables.{stands-one, nodes-stand-for-one, nodes-stand-for-documents}
 use Rattle.documents.proofs.Levels.{read-is-spelled}
-
-at-most : (m n : ℕ) → Decided (m ≤ n)
-at-most m n = ⊎-elim (λ l. inr (λ h. omega arith)) inl (cases-lt n m)
-
--- the k-th of a list has a fault, or it has none
-abbrev Fault : {X : Type 0} → List X → (ℕ → X → Type 0) → ℕ → Type 0
-Fault {X} xs P k = (x : X) × (nth xs k ≡ Some x) × (P k x → ⊥)
-
-fault-or-not : {X : Type 0} (xs : List X) (P : ℕ → X → Type 0) → ((k : ℕ) (x : X) → Decided (P k x)) → (k : ℕ) → Decided (Fault xs P k)
-fault-or-not {X} xs P test k = ⊎-elim
-    (λ (x, e). ⊎-elim (λ h. inr (λ (y, e′, np). let ey : x ≡ y = cc in np (subst (P k) ey h))) (λ np. inl (x, e, np)) (test k x))
-    (λ none. inr (λ (y, e, np). none y e))
-    (entry xs k)
-  where
-    entry : (xs : List X) (k : ℕ) → ((x : X) × (nth xs k ≡ Some x)) ⊎ ((x : X) → nth xs k ≡ Some x → ⊥)
-    entry [] k = inr (λ x e. never (cc))
-    entry (x ∷ xs) zero = inl (x, refl)
-    entry (x ∷ xs) (suc k) = entry xs k
-
-faulty : {X : Type 0} (xs : List X) (P : ℕ → X → Type 0) → ((k : ℕ) (x : X) → Decided (P k x)) → ((k : ℕ) × Lowest (Fault xs P) k) ⊎ ((k : ℕ) (x : X) → nth xs k ≡ Some x → P k x)
-faulty xs P test = ⊎-elim
-    (λ (k, h, lowest). inl (k, lowest))
-    (λ none. inr (λ k x e. ⊎-elim (λ h. h) (λ np. absurd (none k (nth-below xs k e) (x, e, np))) (test k x)))
-    (least-below (fault-or-not xs P test) (length xs))
 
 -- DOCUMENTS
 sound-or-not : (k : ℕ) (m : Node) → Decided (SoundAt k m)
 sound-or-not k Void-node = inl tt
-sound-or-not k (Reference c) = at-most (suc c) max-rows
-sound-or-not k (Element-node x i f) = ⊎-elim (λ (a, (b, c)). inl (a, b, c)) (λ none. inr (λ (a, b, c). none (a, (b, c)))) (both-or-not (at-most (suc x) label-count) (both-or-not (at-most (suc i) k) (at-most (suc f) k)))
+sound-or-not k (Reference c) = below-or-not c max-rows
+sound-or-not k (Element-node x i f) = ⊎-elim (λ (a, (b, c)). inl (a, b, c)) (λ none. inr (λ (a, b, c). none (a, (b, c)))) (both-or-not (below-or-not x label-count) (both-or-not (below-or-not i k) (below-or-not f k)))
 
 module _ (room : ℕ) (nodes : List Node) (root : ℕ) where
   writes-document : (o : Outcome (List ℕ)) × WritesDocument room nodes root o

@@ -1,3 +1,4 @@
+pub mod Findings
 pub mod Sides
 pub mod Buffers
 pub mod Splices

@@ -16,10 +16,7 @@ use Rattle.forms.specs.declared.Row.the-variants.{Void}
 use Rattle.forms.specs.Limits.{max-rows}
 use Rattle.forms.specs.Rows.{sides, joined, shift, turn}
 use Rattle.forms.specs.Laws.{length-sides}
-
--- for a case that two equations rule out: `never (cc)`
-pub never : {A : Type 0} → _≡_ {A = ℕ} 0 1 → A
-never z = absurd (omega arith)
+pub use Rattle.forms.proofs.Findings.{never}
 
 pub some-nth : (rows : List Row) (k : ℕ) (r : Row) → Some r ≡ nth rows k → (k < length rows) × (r ≡ getD rows k Void)
 some-nth rows k r e = ⊎-elim

@@ -21,7 +21,8 @@ use Rattle.texts.specs.Limits.{label-digits}
 use Rattle.texts.specs.RowText.{field-1, field-2, field-3, spelled-row, spelled}
 use Rattle.texts.specs.Writing.{NumberOver, Lays}
 use Rattle.texts.proofs.Numbers.{length-hexadecimal}
-use Rattle.texts.proofs.Outcomes.{numbered-or-not, nth-below}
+use Rattle.forms.proofs.Findings.{nth-below}
+use Rattle.texts.proofs.Outcomes.{numbered-or-not}
 use Rattle.texts.proofs.Laying.{lays-both}
 
 length-line : (row : Row) → length (spelled-row row) ≡ 5 + (length (field-1 row) + (length (field-2 row) + length (field-3 row)))
