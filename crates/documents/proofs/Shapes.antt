@@ -97,14 +97,6 @@ all-sound nodes k all below = record { each = λ j {m} e. below j (omega (arith,
 pub one-more-sound : (nodes : List Node) (k : ℕ) → k < length nodes → SoundAt k (getD nodes k Void) → (m : Node) → nth nodes k ≡ Some m → SoundAt k m
 one-more-sound nodes k lt here m e = let same : getD nodes k Void ≡ m = cc (nth-getD nodes k Void lt) in subst (SoundAt k) same here
 
--- NUMBERS
-pub decimal-two : (n : ℕ) → 10 ≤ n → n < max-rows → decimal n ≡ (48 + n / 10 % 10) ∷ (48 + n % 10) ∷ []
-decimal-two n large small =
-    let s : n < 2 ^ 64 = omega arith in
-    let t : n / 10 < 10 = omega arith in
-    let u : n / 10 ≡ n / 10 % 10 = omega arith in
-    decimal-step n large s ∙ ap (λ x. x ++ ((48 + n % 10) ∷ [])) (decimal-digit (n / 10) t) ∙ ap (λ x. (48 + x) ∷ (48 + n % 10) ∷ []) u
-
 -- THE ROOM THAT IS LEFT
 rest-some : (room n : ℕ) → n ≤ room → rest room n ≡ Some (room - n)
 rest-some room n h = cond-true (leb n room) (Some (room - n)) None (le-leb n room h)

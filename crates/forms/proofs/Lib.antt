@@ -2,3 +2,4 @@ pub mod Findings
 pub mod Sides
 pub mod Buffers
 pub mod Splices
+pub mod Decimals

@@ -52,3 +52,7 @@ wrote-both o m n p q r s t first second room =
     let long : length m ≡ length o = ap length em ∙ length-splice o p s fits in
     let (er, en) = second (omega arith) in
     (omega arith, en ∙ ap (λ x. spliced x q t) em ∙ splice-both o p s fits t q eq)
+
+-- what is written from the start on stands at the front, and the rest stays
+pub wrote-front : {A : Type 0} (o n s : List A) (r : ℕ) → Wrote o n 0 s r → length s ≤ length o → (r ≡ length s) × (n ≡ s ++ drop r o)
+wrote-front o n s r wrote fits = let (is, e) = wrote (omega arith) in (omega arith, e ∙ ap (λ k. s ++ drop k o) (sym is))

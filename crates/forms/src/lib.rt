@@ -8,6 +8,7 @@ ghost use Rattle.forms.specs.declared.Row.{Row};
 ghost use Rattle.forms.specs.Rows.{Lawful};
 
 pub mod buffer;
+pub mod bytes;
 pub mod makes;
 
 // The most rows that a table has.
