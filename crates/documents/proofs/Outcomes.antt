@@ -1,6 +1,6 @@
 -- Each way through the reader and the writer, as the outcome of reading and writing. Assumes nothing.
 use mathlib.Core.Path.{_≡_, refl, sym, ap, subst, _∙_}
-use mathlib.Core.List.{List, [], _∷_, _++_}
+use mathlib.Core.List.{List, _++_}
 use Prim.Native.Nat.{ℕ, min, _-_, _<_, _≤_}
 use native.Mathlib.Omega.{arith}
 use mathlib.Core.Bool.{true, false}
@@ -17,8 +17,7 @@ use Rattle.documents.specs.declared.faults.ReadFault.{ReadFault}
 use Rattle.documents.specs.declared.faults.ReadFault.the-variants.{Wrong as WrongFault, TooDeep, TooManyNodes}
 use Rattle.documents.specs.Limits.{max-nodes, max-document}
 use Rattle.documents.specs.Nodes.{nodes-of}
-use Rattle.documents.specs.Reading.{Reads}
-use Rattle.documents.specs.Reading.Reads.{is-long, is-wrong, is-deep, is-large, is-read}
+use Rattle.documents.specs.Reading.Reads.{is-wrong, is-deep, is-large, is-read}
 use Rattle.documents.specs.Writing.{WritesDocument}
 use Rattle.documents.specs.Judged.{JudgedAs}
 use Rattle.documents.specs.Built.{BuildsText}

@@ -1,5 +1,4 @@
 use mathlib.Core.Path.{refl}
-use native.Mathlib.Omega.{arith}
 use Rattle.std.specs.declared.result.Result.the-variants.{Ok}
 use Rattle.documents.specs.Reading.Reads.{is-long}
 use Rattle.documents.proofs.Texts.{texts-are-unambiguous}
