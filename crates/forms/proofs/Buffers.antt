@@ -11,9 +11,10 @@ use Rattle.std.proofs.shelf.Tests.{cases-eq, cases-lt, cond-true, cond-false, l
 use Rattle.std.proofs.shelf.Lists.{take-more-set, take-more, getD-set-same, getD-set-other, getD-replicate, getD-past}
 use Rattle.forms.specs.declared.Row.{Row}
 use Rattle.forms.specs.declared.Row.the-variants.{Void}
+use Rattle.forms.specs.declared.buffer.RowBuffer.{RowBuffer}
 use Rattle.forms.specs.Limits.{max-rows}
 use Rattle.forms.specs.Rows.{fits, few}
-use Rattle.forms.specs.Buffers.{pushed}
+use Rattle.forms.specs.Buffers.{rows-of, pushed}
 
 -- a table of which the first n rows count
 module _ (table : List Row) (n : ℕ) (long : length table ≡ max-rows) (within : n ≤ max-rows) where
@@ -50,6 +51,10 @@ pub copied-more : (rows held : List Row) (i : ℕ) (row : Row) → i < length ro
 copied-more rows held i row h le e is =
     let l : length held < max-rows = omega (arith, ap length e, length-take i rows) in
     pushed-is held row l ∙ ap (λ x. x ++ (row ∷ [])) e ∙ ap (λ x. take i rows ++ (x ∷ [])) is ∙ sym (take-more rows i Void h)
+
+-- the same of a buffer, before and after the push
+pub buffer-copied-more : (rows : List Row) (i : ℕ) (row : Row) (before after now : RowBuffer) → i < length rows → length rows ≤ max-rows → rows-of before ≡ take i rows → row ≡ getD rows i Void → rows-of after ≡ pushed (rows-of before) row → now ≡ after → rows-of now ≡ take (i + 1) rows
+buffer-copied-more rows i row before after now h le e is push same = ap rows-of same ∙ push ∙ copied-more rows (rows-of before) i row h le e is
 
 pub few-is : (rows : List Row) → length rows ≤ max-rows → few rows ≡ rows
 few-is rows h = cond-true (leb (length rows) max-rows) rows [] (le-leb (length rows) max-rows h)

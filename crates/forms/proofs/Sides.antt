@@ -7,6 +7,7 @@ use native.Mathlib.Omega.{arith}
 use lib.Dec.{leb}
 use lib.ListN.{length, getD, length-map}
 use Rattle.std.specs.shelf.Maps.{nth}
+use Rattle.std.specs.declared.option.Option.{Option}
 use Rattle.std.specs.declared.option.Option.the-variants.{Some, None}
 use Rattle.std.proofs.shelf.Tests.{cases-lt, cond-true, cond-false, le-leb, lt-leb}
 use Rattle.std.proofs.shelf.Lists.{getD-append-left, getD-append-right, getD-map}
@@ -23,6 +24,9 @@ some-nth rows k r e = ⊎-elim
     (λ lt. (lt, let w : Some r ≡ Some (getD rows k Void) = e ∙ nth-getD rows k Void lt in cc))
     (λ le. let w : Some r ≡ None = e ∙ nth-past rows k le in never (cc))
     (cases-lt k (length rows))
+
+pub row-there : (rows : List Row) (k : ℕ) (o : Option Row) → k < length rows → o ≡ nth rows k → o ≡ Some (getD rows k Void)
+row-there rows k o lt e = e ∙ nth-getD rows k Void lt
 
 pub none-nth : (rows : List Row) (k : ℕ) → None ≡ nth rows k → length rows ≤ k
 none-nth rows k e = ⊎-elim
