@@ -1,6 +1,6 @@
 -- Writing has one outcome.
 use mathlib.Core.Path.{_≡_, refl, ap, sym, subst}
-use mathlib.Core.List.{List, [], _∷_}
+use mathlib.Core.List.{List}
 use mathlib.Core.Logic.{inl, inr, ⊎-elim}
 use Prim.Native.Nat.{ℕ, min, _-_, _<_}
 use native.Mathlib.Omega.{arith}
@@ -9,11 +9,12 @@ use Rattle.std.proofs.shelf.Tests.{cases-lt}
 use Rattle.forms.specs.Limits.{max-rows, label-count}
 use Rattle.forms.specs.Places.{Lowest}
 use Rattle.forms.specs.Refusals.{Outcome}
-use Rattle.forms.specs.Refusals.Refusal.{refusal}
 use Rattle.forms.specs.Refusals.Outcome.{refuses, gives}
 use Rattle.forms.specs.Documents.{Document}
 use Rattle.documents.specs.declared.nodes.Node.{Node}
 use Rattle.documents.specs.declared.nodes.Node.the-variants.{Void as Void-node, Reference, Element as Element-node}
+use Rattle.documents.specs.declared.faults.WriteFault.the-variants.{ManyNodes, Unsound as unsound-node, RootOutside, TooLong}
+use Rattle.documents.specs.Faults.{write-refusal}
 use Rattle.documents.specs.Limits.{max-nodes, max-document}
 use Rattle.documents.specs.Grammar.{spelled-document}
 use Rattle.documents.specs.Nodes.{SoundAt, Sound, StandsFor, nodes-of}
@@ -33,13 +34,13 @@ sound-or-not k (Element-node x i f) = ⊎-elim (λ (a, (b, c)). inl (a, b, c)) (
 module _ (room : ℕ) (nodes : List Node) (root : ℕ) where
   writes-document : (o : Outcome (List ℕ)) × WritesDocument room nodes root o
   writes-document = ⊎-elim
-      (λ many. (refuses (refusal 30 []), is-many many))
+      (λ many. (refuses (write-refusal ManyNodes), is-many many))
       (λ few. ⊎-elim
-      (λ (k, lowest). (refuses (refusal 31 (k ∷ [])), is-unsound few lowest))
+      (λ (k, lowest). (refuses (write-refusal (unsound-node k)), is-unsound few lowest))
       (λ all. let sound : Sound nodes = record { each = λ k {m} e. all k m e } in ⊎-elim
       (λ inside. let (d, _, t, _) = nodes-stand-for-one nodes sound root inside in
-      ⊎-elim (λ long. (refuses (refusal 45 []), is-long d few sound t long)) (λ fits. (gives (spelled-document d), is-written d few sound t fits)) (cases-lt (min room max-document) (length (spelled-document d))))
-      (λ outside. (refuses (refusal 32 []), is-outside few sound outside))
+      ⊎-elim (λ long. (refuses (write-refusal TooLong), is-long d few sound t long)) (λ fits. (gives (spelled-document d), is-written d few sound t fits)) (cases-lt (min room max-document) (length (spelled-document d))))
+      (λ outside. (refuses (write-refusal RootOutside), is-outside few sound outside))
       (cases-lt root (length nodes)))
       (faulty nodes SoundAt sound-or-not))
       (cases-lt max-nodes (length nodes))
@@ -62,7 +63,7 @@ module _ (room : ℕ) (nodes : List Node) (root : ℕ) where
   same-document (is-many h) (is-long d f s t l) = absurd (omega arith)
   same-document (is-many h) (is-written d f s t l) = absurd (omega arith)
   same-document (is-unsound f low) (is-many h) = absurd (omega arith)
-  same-document (is-unsound {k} f low) (is-unsound {k = j} f′ low′) = ap (λ x. refuses (refusal 31 (x ∷ []))) (lowest-one (Unsound nodes) j k low′ low)
+  same-document (is-unsound {k} f low) (is-unsound {k = j} f′ low′) = ap (λ x. refuses (write-refusal (unsound-node x))) (lowest-one (Unsound nodes) j k low′ low)
   same-document (is-unsound f low) (is-outside f′ s o) = absurd (sound-everywhere s low)
   same-document (is-unsound f low) (is-long d f′ s t l) = absurd (sound-everywhere s low)
   same-document (is-unsound f low) (is-written d f′ s t l) = absurd (sound-everywhere s low)
