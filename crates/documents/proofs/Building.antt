@@ -2,7 +2,7 @@
 use mathlib.Core.Path.{_≡_, refl, sym, ap, subst, _∙_}
 use mathlib.Core.List.{List, [], _∷_, _++_}
 use mathlib.Core.Logic.{_⊎_, inl, inr, ⊎-elim}
-use Prim.Native.Nat.{ℕ, zero, suc, _+_, _-_, _*_, _/_, _%_, _<_, _≤_}
+use Prim.Native.Nat.{ℕ, _+_, _*_, _<_, _≤_}
 use native.Mathlib.Omega.{arith}
 use native.Mathlib.Nat.{zero-add}
 use lib.ListN.{length, getD, set, drop, length-drop, length-append}
@@ -20,7 +20,7 @@ use Rattle.documents.specs.declared.reader.Reached.{Reached}
 use Rattle.documents.specs.Grammar.{comma-before, spelled-document, Small}
 use Rattle.documents.specs.Nodes.{size, root, nodes-from, nodes-of}
 use Rattle.documents.specs.Built.{NoDigit, Closing, Built, ReadsNumber, BuildsList, BuildsItem, BuildsText}
-use Rattle.texts.proofs.Findings.{never}
+use Rattle.forms.proofs.Findings.{never}
 use Rattle.documents.proofs.Tables.{length-nodes}
 use Rattle.documents.proofs.Texts.{closing-no-digit, element-bytes}
 use Rattle.texts.proofs.Numbers.{Figures, figures}

@@ -1,32 +1,27 @@
 -- A scan of a text, byte by byte, finds where it is wrong or too deep, or how many nodes its document takes.
 use mathlib.Core.Path.{_≡_, refl, sym, ap, subst, _∙_}
 use mathlib.Core.List.{List, [], _∷_, _++_}
-use mathlib.Core.Bool.{Bool, true, false, cond, _||_}
-use mathlib.Core.Logic.{_⊎_, inl, inr, ⊎-elim}
+use mathlib.Core.Bool.{true, false, cond}
 use Prim.Native.Nat.{ℕ, suc, _+_, _/_, _%_, _<_, _≤_}
 use native.Mathlib.Omega.{arith}
 use native.Mathlib.Numerals.{add-one}
 use borrow.Author.Count.{below-more}
-use lib.Dec.{eqb}
 use lib.ListN.{length, getD, take, length-take}
 use Rattle.std.specs.Written.{decimal}
 use Rattle.std.proofs.shelf.Lists.{take-all, take-more}
-use Rattle.std.proofs.shelf.Tests.{cases-eq, cases-bool, both-ways}
 use Rattle.std.proofs.shelf.Ways.{tells}
 use Rattle.forms.specs.Documents.{Document}
 use Rattle.forms.specs.Documents.Document.{void, reference, element}
-use Rattle.forms.specs.Places.{Nowhere, NoneBelow}
+use Rattle.forms.specs.Places.{NoneBelow}
 use Rattle.documents.specs.declared.scan.Phase.{Phase}
-use Rattle.documents.specs.declared.scan.Phase.the-variants.{MayBegin as may-begin}
 use Rattle.documents.specs.declared.scan.State.{State}
 use Rattle.documents.specs.declared.scan.State.the-variants.{Within as within, Stuck as stuck}
 use Rattle.documents.specs.declared.scan.Judgement.the-variants.{Wrong, Deep, Text as Whole}
 use Rattle.documents.specs.Limits.{max-levels}
 use Rattle.documents.specs.Grammar.{comma-before, spelled-document, Small, level, OpensTooMany}
-use Rattle.documents.specs.Scan.{may-end, step, scan, goes-on, is-whole}
-use Rattle.documents.specs.Nodes.{size, nodes-of}
+use Rattle.documents.specs.Scan.{step, scan, goes-on, is-whole}
+use Rattle.documents.specs.Nodes.{size}
 use Rattle.documents.specs.Judged.{marks, JudgedAs}
-use Rattle.texts.proofs.Findings.{never}
 use Rattle.texts.proofs.Numbers.{Figures, figures}
 use Rattle.texts.proofs.Numbers.Figures.{one, two}
 use Rattle.documents.proofs.Texts.{texts-are-spelled}
@@ -94,9 +89,6 @@ pub record Scanned (bytes : List ℕ) (i n : ℕ) (p : Phase) (nodes : ℕ) : Ty
   pub shallow : n ≤ max-levels
   pub none : NoneBelow (OpensTooMany bytes) i
   pub count : nodes ≡ marked (take i bytes) + 1
-
-pub scanned-none : (bytes : List ℕ) → Scanned bytes 0 0 may-begin 1
-scanned-none bytes = record { state = refl; shallow = omega arith; none = λ j h. absurd (omega arith); count = refl }
 
 module _ (bytes : List ℕ) (i n : ℕ) (p : Phase) (nodes : ℕ) (scanned : Scanned bytes i n p nodes) where
   abbrev byte : ℕ

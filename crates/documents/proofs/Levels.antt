@@ -18,7 +18,7 @@ use Rattle.documents.specs.Grammar.{comma-before, spelled-document, Small, lev
 use Rattle.forms.specs.Documents.Document.{void, reference, element}
 use Rattle.documents.specs.Scan.{step, run, scan, goes-on, Scan-tells-level}
 use Rattle.documents.specs.declared.scan.Phase.{Phase}
-use Rattle.documents.specs.declared.scan.Phase.the-variants.{MayBegin as may-begin, MustBegin as must-begin, InLabel as in-label, AfterAt as after-at, InRow as in-row, AfterElement as after-element}
+use Rattle.documents.specs.declared.scan.Phase.the-variants.{MayBegin as may-begin}
 use Rattle.documents.specs.declared.scan.State.{State}
 use Rattle.documents.specs.declared.scan.State.the-variants.{Within as within, Stuck as stuck}
 use Rattle.documents.specs.Nodes.{nodes-of}
@@ -26,7 +26,7 @@ use Rattle.forms.specs.Refusals.Outcome.{gives}
 use Rattle.documents.specs.Limits.{max-nodes, max-document, max-levels}
 use Rattle.documents.specs.Reading.{Reads, Levels-are-opened, Read-is-spelled}
 use Rattle.documents.specs.Reading.Reads.{is-read}
-use Rattle.texts.proofs.Findings.{never}
+use Rattle.forms.proofs.Findings.{never}
 use Rattle.texts.proofs.Numbers.{Figures, figures}
 use Rattle.texts.proofs.Numbers.Figures.{one, two}
 use Rattle.documents.proofs.Texts.{texts-are-spelled}

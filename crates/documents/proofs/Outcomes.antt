@@ -1,9 +1,8 @@
 -- Each way through the reader and the writer, as the outcome of reading and writing. Assumes nothing.
 use mathlib.Core.Path.{_≡_, refl, sym, ap, subst, _∙_}
-use mathlib.Core.List.{List, [], _∷_, _++_}
+use mathlib.Core.List.{List, _++_}
 use Prim.Native.Nat.{ℕ, min, _-_, _<_, _≤_}
 use native.Mathlib.Omega.{arith}
-use native.Mathlib.Nat.{zero-add}
 use mathlib.Core.Bool.{true, false}
 use lib.Dec.{ltb}
 use lib.ListN.{length, take, drop}
@@ -18,8 +17,7 @@ use Rattle.documents.specs.declared.faults.ReadFault.{ReadFault}
 use Rattle.documents.specs.declared.faults.ReadFault.the-variants.{Wrong as WrongFault, TooDeep, TooManyNodes}
 use Rattle.documents.specs.Limits.{max-nodes, max-document}
 use Rattle.documents.specs.Nodes.{nodes-of}
-use Rattle.documents.specs.Reading.{Reads}
-use Rattle.documents.specs.Reading.Reads.{is-long, is-wrong, is-deep, is-large, is-read}
+use Rattle.documents.specs.Reading.Reads.{is-wrong, is-deep, is-large, is-read}
 use Rattle.documents.specs.Writing.{WritesDocument}
 use Rattle.documents.specs.Judged.{JudgedAs}
 use Rattle.documents.specs.Built.{BuildsText}
@@ -32,6 +30,7 @@ use Rattle.documents.specs.Grammar.{spelled-document}
 use Rattle.documents.specs.Nodes.{Sound, StandsFor}
 use Rattle.documents.specs.Spelling.{rest}
 use Rattle.documents.specs.Writing.WritesDocument.{is-outside, is-long as writes-long, is-written as writes-text}
+use Rattle.forms.proofs.Splices.{wrote-front}
 use Rattle.documents.proofs.Texts.{texts-are-spelled}
 use Rattle.documents.proofs.Tables.{nodes-stand-for-one}
 use Rattle.documents.proofs.Levels.{read-is-spelled}
@@ -77,9 +76,7 @@ module _ (nodes : List Node) (root : ℕ) (before : List ℕ) (few : length node
         let (d, small, stands, _) = nodes-stand-for-one nodes sound root within in
         let text = spelled-document d in
         let (fits, _) = room-for room (length text) left (some d stands) in
-        let (is, e) = wrote d stands (omega arith) in
-        let long : n ≡ length text = is ∙ zero-add (length text) in
-        let filled : after ≡ text ++ drop n before = e ∙ ap (λ k. text ++ drop k before) (sym is) in
+        let (long, filled) = wrote-front before after text n (wrote d stands) (omega arith) in
         let front : take n after ≡ text = ap (take n) filled ∙ take-at text (drop n before) n (sym long) in (
           (text, writes-text d few sound stands (omega arith), long, filled),
           (d, stands, λ buffer shallow room′. read-is-spelled buffer (take n after) d .1 (small, front, omega (arith, ap length front), shallow, room′)),

@@ -1,6 +1,6 @@
 -- A text that is wrong is wrong at one place, and reading has one outcome.
 use mathlib.Core.Path.{_≡_, refl, ap, subst}
-use mathlib.Core.List.{List, [], _∷_, _++_}
+use mathlib.Core.List.{List, [], _++_}
 use mathlib.Core.Bool.{Bool, true, false}
 use mathlib.Core.Logic.{_⊎_, inl, inr, ⊎-elim}
 use Prim.Native.Nat.{ℕ, zero, suc, min, _+_, _<_, _≤_}
@@ -18,12 +18,13 @@ use Rattle.documents.specs.Scan.{goes-on, is-whole, scan}
 use Rattle.documents.specs.Nodes.{nodes-of}
 use Rattle.forms.specs.Places.{NoneBelow}
 use Rattle.forms.specs.Refusals.{Outcome}
-use Rattle.forms.specs.Refusals.Refusal.{refusal}
 use Rattle.forms.specs.Refusals.Outcome.{refuses, gives}
+use Rattle.documents.specs.declared.faults.ReadFault.the-variants.{TooLong, Wrong, TooDeep, TooManyNodes}
+use Rattle.documents.specs.Faults.{read-refusal}
 use Rattle.documents.specs.Limits.{max-nodes, max-document, max-levels}
 use Rattle.documents.specs.Reading.{Reads, Reading-is-one}
 use Rattle.documents.specs.Reading.Reads.{is-long, is-wrong, is-deep, is-large, is-read}
-use Rattle.texts.proofs.Findings.{Decided, both-or-not, least-below, lowest-one}
+use Rattle.forms.proofs.Findings.{Decided, both-or-not, least-below, lowest-one}
 use Rattle.documents.proofs.Texts.{texts-are-unambiguous}
 use Rattle.documents.proofs.Scanning.{scan-tells-texts, scan-tells-going-on}
 
@@ -98,17 +99,17 @@ module _ (buffer : ℕ) (bytes : List ℕ) where
   reads-short : length bytes ≤ max-document → (o : Outcome Document) × Reads buffer bytes o
   reads-short short = ⊎-elim
       (λ (d, t). ⊎-elim
-      (λ (k, h, lowest). (refuses (refusal 43 (k ∷ [])), is-deep short lowest (goes-on-all bytes (suc k) (text-goes-on bytes d t))))
-      (λ none. let nowhere = λ (k : ℕ) (o : OpensTooMany bytes k). none k (o .0) o in ⊎-elim (λ large. (refuses (refusal 44 []), is-large d short t nowhere large)) (λ fits. (gives d, is-read short t nowhere fits)) (cases-lt (min buffer max-nodes) (length (nodes-of d))))
+      (λ (k, h, lowest). (refuses (read-refusal (TooDeep k)), is-deep short lowest (goes-on-all bytes (suc k) (text-goes-on bytes d t))))
+      (λ none. let nowhere = λ (k : ℕ) (o : OpensTooMany bytes k). none k (o .0) o in ⊎-elim (λ large. (refuses (read-refusal TooManyNodes), is-large d short t nowhere large)) (λ fits. (gives d, is-read short t nowhere fits)) (cases-lt (min buffer max-nodes) (length (nodes-of d))))
       (least-below opens-or-not (length bytes)))
       (λ (k, w). ⊎-elim
-      (λ (j, h, lowest). (refuses (refusal 43 (j ∷ [])), is-deep short lowest (goes-on-lower bytes (suc j) k h (goes-to bytes w .1))))
-      (λ none. (refuses (refusal 41 (k ∷ [])), is-wrong short w none))
+      (λ (j, h, lowest). (refuses (read-refusal (TooDeep j)), is-deep short lowest (goes-on-lower bytes (suc j) k h (goes-to bytes w .1))))
+      (λ none. (refuses (read-refusal (Wrong k)), is-wrong short w none))
       (least-below opens-or-not k))
       (text-or-wrong bytes)
 
   reads : (o : Outcome Document) × Reads buffer bytes o
-  reads = ⊎-elim (λ long. (refuses (refusal 40 []), is-long long)) reads-short (cases-lt max-document (length bytes))
+  reads = ⊎-elim (λ long. (refuses (read-refusal TooLong), is-long long)) reads-short (cases-lt max-document (length bytes))
 
   -- what may not hold of one text
   wrong-not-deep : (j k : ℕ) → WrongAt bytes j → NoneBelow (OpensTooMany bytes) j → OpensTooMany bytes k → GoesOn (take (suc k) bytes) → ⊥
@@ -124,13 +125,13 @@ module _ (buffer : ℕ) (bytes : List ℕ) where
   same (is-long l) (is-large d s t none m) = absurd (omega arith)
   same (is-long l) (is-read s t none m) = absurd (omega arith)
   same (is-wrong s w none) (is-long l) = absurd (omega arith)
-  same (is-wrong s w none) (is-wrong s′ w′ none′) = ap (λ x. refuses (refusal 41 (x ∷ []))) (wrong-one bytes w′ w)
+  same (is-wrong s w none) (is-wrong s′ w′ none′) = ap (λ x. refuses (read-refusal (Wrong x))) (wrong-one bytes w′ w)
   same (is-wrong {k} s w none) (is-deep {k = j} s′ low g) = absurd (wrong-not-deep k j w none (low .0) g)
   same (is-wrong s w none) (is-large d s′ t none′ m) = absurd (text-not-wrong bytes d t w)
   same (is-wrong s w none) (is-read {d} s′ t none′ m) = absurd (text-not-wrong bytes d t w)
   same (is-deep s low g) (is-long l) = absurd (omega arith)
   same (is-deep {k} s low g) (is-wrong {k = j} s′ w none′) = absurd (wrong-not-deep j k w none′ (low .0) g)
-  same (is-deep {k} s low g) (is-deep {k = j} s′ low′ g′) = ap (λ x. refuses (refusal 43 (x ∷ []))) (lowest-one (OpensTooMany bytes) j k low′ low)
+  same (is-deep {k} s low g) (is-deep {k = j} s′ low′ g′) = ap (λ x. refuses (read-refusal (TooDeep x))) (lowest-one (OpensTooMany bytes) j k low′ low)
   same (is-deep {k} s low g) (is-large d s′ t none m) = absurd (none k (low .0))
   same (is-deep {k} s low g) (is-read s′ t none m) = absurd (none k (low .0))
   same (is-large d s t none m) (is-long l) = absurd (omega arith)

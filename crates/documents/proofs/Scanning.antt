@@ -20,7 +20,7 @@ use Rattle.documents.specs.declared.scan.Phase.{Phase}
 use Rattle.documents.specs.declared.scan.Phase.the-variants.{MayBegin as may-begin, MustBegin as must-begin, InLabel as in-label, AfterAt as after-at, InRow as in-row, AfterElement as after-element}
 use Rattle.documents.specs.declared.scan.State.{State}
 use Rattle.documents.specs.declared.scan.State.the-variants.{Within as within, Stuck as stuck}
-use Rattle.texts.proofs.Findings.{never}
+use Rattle.forms.proofs.Findings.{never}
 use Rattle.texts.proofs.Numbers.{Figures, figures}
 use Rattle.texts.proofs.Numbers.Figures.{one, two}
 use Rattle.documents.proofs.Texts.{texts-are-spelled}

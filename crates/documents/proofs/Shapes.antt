@@ -2,23 +2,22 @@
 use mathlib.Core.Path.{_≡_, refl, sym, ap, subst, _∙_}
 use mathlib.Core.List.{List, [], _∷_, _++_}
 use mathlib.Core.Logic.{⊎-elim}
-use Prim.Native.Nat.{ℕ, _+_, _-_, _/_, _%_, _^_, _<_, _≤_}
+use Prim.Native.Nat.{ℕ, _+_, _-_, _<_, _≤_}
 use native.Mathlib.Omega.{arith}
 use lib.Dec.{leb}
-use lib.ListN.{length, getD, set, length-append}
+use lib.ListN.{length, getD, length-append}
 use Rattle.std.specs.Written.{decimal}
 use Rattle.std.specs.shelf.Maps.{nth}
 use Rattle.std.specs.declared.option.Option.{Option}
 use Rattle.std.specs.declared.option.Option.the-variants.{Some, None}
-use Rattle.std.proofs.shelf.Decimals.{decimal-digit, decimal-step}
 use Rattle.std.proofs.shelf.Maps.{nth-getD}
 use Rattle.std.proofs.shelf.Tests.{cases-lt, cond-true, cond-false, le-leb, lt-leb}
-use Rattle.forms.specs.Limits.{max-rows, label-count}
+use Rattle.forms.specs.Limits.{label-count}
 use Rattle.forms.specs.Documents.{Document}
 use Rattle.forms.specs.Documents.Document.{void, reference, element}
 use Rattle.forms.specs.Places.{Lowest}
-use Rattle.forms.specs.Splices.{spliced, Wrote}
-use Rattle.forms.proofs.Splices.{splice-one, wrote-both}
+use Rattle.forms.specs.Splices.{Wrote}
+use Rattle.forms.proofs.Splices.{wrote-both}
 use Rattle.documents.specs.declared.nodes.Node.{Node}
 use Rattle.documents.specs.declared.nodes.Node.the-variants.{Void, Reference, Element}
 use Rattle.documents.specs.declared.writer.Shape.the-variants.{Single, Chain, Address}
@@ -27,10 +26,7 @@ use Rattle.documents.specs.Nodes.{SoundAt, Sound, StandsFor}
 use Rattle.documents.specs.Nodes.StandsFor.{for-void, for-reference, for-element}
 use Rattle.documents.specs.Writing.{Unsound}
 use Rattle.documents.specs.Spelling.{rest, Shaped}
-use Rattle.texts.proofs.Findings.{never}
-use Rattle.texts.proofs.Numbers.{Figures, figures}
-use Rattle.texts.proofs.Numbers.Figures.{one, two}
-use Rattle.documents.proofs.Tables.{nth-below}
+use Rattle.forms.proofs.Findings.{never, nth-below}
 
 -- NODES
 pub of-void : {nodes : List Node} {k : ℕ} {x : Document} → nth nodes k ≡ Some Void → StandsFor nodes k x → x ≡ void
@@ -97,14 +93,6 @@ all-sound nodes k all below = record { each = λ j {m} e. below j (omega (arith,
 
 pub one-more-sound : (nodes : List Node) (k : ℕ) → k < length nodes → SoundAt k (getD nodes k Void) → (m : Node) → nth nodes k ≡ Some m → SoundAt k m
 one-more-sound nodes k lt here m e = let same : getD nodes k Void ≡ m = cc (nth-getD nodes k Void lt) in subst (SoundAt k) same here
-
--- NUMBERS
-pub decimal-two : (n : ℕ) → 10 ≤ n → n < max-rows → decimal n ≡ (48 + n / 10 % 10) ∷ (48 + n % 10) ∷ []
-decimal-two n large small =
-    let s : n < 2 ^ 64 = omega arith in
-    let t : n / 10 < 10 = omega arith in
-    let u : n / 10 ≡ n / 10 % 10 = omega arith in
-    decimal-step n large s ∙ ap (λ x. x ++ ((48 + n % 10) ∷ [])) (decimal-digit (n / 10) t) ∙ ap (λ x. (48 + x) ∷ (48 + n % 10) ∷ []) u
 
 -- THE ROOM THAT IS LEFT
 rest-some : (room n : ℕ) → n ≤ room → rest room n ≡ Some (room - n)

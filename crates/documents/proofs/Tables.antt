@@ -17,7 +17,7 @@ use Rattle.documents.specs.Grammar.{Small}
 use Rattle.forms.specs.Documents.Document.{void, reference, element}
 use Rattle.documents.specs.Nodes.{StandsFor, SoundAt, Sound, size, root, nodes-from, nodes-of, Nodes-stand-for-documents, Nodes-stand-for-one}
 use Rattle.documents.specs.Nodes.StandsFor.{for-void, for-reference, for-element}
-use Rattle.texts.proofs.Findings.{never}
+use Rattle.forms.proofs.Findings.{never}
 
 pub length-nodes : (d : Document) (n : ℕ) → length (nodes-from n d) ≡ size d
 length-nodes void n = refl
@@ -28,11 +28,6 @@ root-below : (d : Document) (n : ℕ) → 1 ≤ n → root n d < n + size d
 root-below void n h = omega arith
 root-below (reference c) n h = omega arith
 root-below (element x a b) n h = omega arith
-
-pub nth-below : {X : Type 0} (xs : List X) (k : ℕ) {x : X} → nth xs k ≡ Some x → k < length xs
-nth-below [] k e = never (cc)
-nth-below (y ∷ xs) zero e = omega arith
-nth-below (y ∷ xs) (suc k) e = omega (arith, nth-below xs k e)
 
 -- where the nodes of a joined list come from
 nth-append : {A : Type 0} (xs ys : List A) (k : ℕ) {m : A} → nth (xs ++ ys) k ≡ Some m → (nth xs k ≡ Some m) ⊎ ((j : ℕ) × (k ≡ length xs + j) × (nth ys j ≡ Some m))

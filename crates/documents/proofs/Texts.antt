@@ -1,7 +1,7 @@
 -- The grammar has one text for each document, and one document for each text.
 use mathlib.Core.Path.{_≡_, refl, ap, sym, subst, _∙_}
 use mathlib.Core.List.{List, [], _∷_, _++_}
-use Prim.Native.Nat.{ℕ, _+_, _/_, _%_, _<_, _≤_}
+use Prim.Native.Nat.{ℕ, _+_, _/_, _%_, _<_}
 use native.Mathlib.Omega.{arith}
 use Rattle.std.specs.Written.{decimal}
 use Rattle.std.proofs.shelf.Lists.{append-assoc, append-nil}
@@ -13,7 +13,7 @@ use Rattle.forms.specs.Documents.Document.{void, reference, element}
 use Rattle.documents.specs.Grammar.Text.{empty, a-list}
 use Rattle.documents.specs.Grammar.Listed.{a-reference, an-element, and-more}
 use Rattle.documents.specs.Grammar.Bracketed.{brackets}
-use Rattle.texts.proofs.Findings.{never}
+use Rattle.forms.proofs.Findings.{never}
 use Rattle.texts.proofs.Numbers.{Figures, figures}
 use Rattle.texts.proofs.Numbers.Figures.{one, two}
 

@@ -1,71 +1,46 @@
 -- Writing has one outcome.
 use mathlib.Core.Path.{_≡_, refl, ap, sym, subst}
-use mathlib.Core.List.{List, [], _∷_}
-use mathlib.Core.Logic.{_⊎_, inl, inr, ⊎-elim}
-use Prim.Native.Nat.{ℕ, zero, suc, min, _-_, _<_, _≤_}
+use mathlib.Core.List.{List}
+use mathlib.Core.Logic.{inl, inr, ⊎-elim}
+use Prim.Native.Nat.{ℕ, min, _-_, _<_}
 use native.Mathlib.Omega.{arith}
 use lib.ListN.{length}
-use Rattle.std.specs.shelf.Maps.{nth}
-use Rattle.std.specs.declared.option.Option.the-variants.{Some}
 use Rattle.std.proofs.shelf.Tests.{cases-lt}
 use Rattle.forms.specs.Limits.{max-rows, label-count}
 use Rattle.forms.specs.Places.{Lowest}
 use Rattle.forms.specs.Refusals.{Outcome}
-use Rattle.forms.specs.Refusals.Refusal.{refusal}
 use Rattle.forms.specs.Refusals.Outcome.{refuses, gives}
 use Rattle.forms.specs.Documents.{Document}
 use Rattle.documents.specs.declared.nodes.Node.{Node}
 use Rattle.documents.specs.declared.nodes.Node.the-variants.{Void as Void-node, Reference, Element as Element-node}
+use Rattle.documents.specs.declared.faults.WriteFault.the-variants.{ManyNodes, Unsound as unsound-node, RootOutside, TooLong}
+use Rattle.documents.specs.Faults.{write-refusal}
 use Rattle.documents.specs.Limits.{max-nodes, max-document}
 use Rattle.documents.specs.Grammar.{spelled-document}
 use Rattle.documents.specs.Nodes.{SoundAt, Sound, StandsFor, nodes-of}
 use Rattle.documents.specs.Nodes.StandsFor.{for-void, for-reference, for-element}
 use Rattle.documents.specs.Writing.{Read-is-written-back, Unsound, WritesDocument, Writing-documents-is-one}
 use Rattle.documents.specs.Writing.WritesDocument.{is-many, is-unsound, is-outside, is-long, is-written}
-use Rattle.texts.proofs.Findings.{never, Decided, both-or-not, least-below, lowest-one}
-use Rattle.documents.proofs.Tables.{nth-below, stands-one, nodes-stand-for-one, nodes-stand-for-documents}
+use Rattle.forms.proofs.Findings.{Decided, both-or-not, below-or-not, lowest-one, nth-below, faulty}
+use Rattle.documents.proofs.Tables.{stands-one, nodes-stand-for-one, nodes-stand-for-documents}
 use Rattle.documents.proofs.Levels.{read-is-spelled}
-
-at-most : (m n : ℕ) → Decided (m ≤ n)
-at-most m n = ⊎-elim (λ l. inr (λ h. omega arith)) inl (cases-lt n m)
-
--- the k-th of a list has a fault, or it has none
-abbrev Fault : {X : Type 0} → List X → (ℕ → X → Type 0) → ℕ → Type 0
-Fault {X} xs P k = (x : X) × (nth xs k ≡ Some x) × (P k x → ⊥)
-
-fault-or-not : {X : Type 0} (xs : List X) (P : ℕ → X → Type 0) → ((k : ℕ) (x : X) → Decided (P k x)) → (k : ℕ) → Decided (Fault xs P k)
-fault-or-not {X} xs P test k = ⊎-elim
-    (λ (x, e). ⊎-elim (λ h. inr (λ (y, e′, np). let ey : x ≡ y = cc in np (subst (P k) ey h))) (λ np. inl (x, e, np)) (test k x))
-    (λ none. inr (λ (y, e, np). none y e))
-    (entry xs k)
-  where
-    entry : (xs : List X) (k : ℕ) → ((x : X) × (nth xs k ≡ Some x)) ⊎ ((x : X) → nth xs k ≡ Some x → ⊥)
-    entry [] k = inr (λ x e. never (cc))
-    entry (x ∷ xs) zero = inl (x, refl)
-    entry (x ∷ xs) (suc k) = entry xs k
-
-faulty : {X : Type 0} (xs : List X) (P : ℕ → X → Type 0) → ((k : ℕ) (x : X) → Decided (P k x)) → ((k : ℕ) × Lowest (Fault xs P) k) ⊎ ((k : ℕ) (x : X) → nth xs k ≡ Some x → P k x)
-faulty xs P test = ⊎-elim
-    (λ (k, h, lowest). inl (k, lowest))
-    (λ none. inr (λ k x e. ⊎-elim (λ h. h) (λ np. absurd (none k (nth-below xs k e) (x, e, np))) (test k x)))
-    (least-below (fault-or-not xs P test) (length xs))
 
 -- DOCUMENTS
 sound-or-not : (k : ℕ) (m : Node) → Decided (SoundAt k m)
 sound-or-not k Void-node = inl tt
-sound-or-not k (Reference c) = at-most (suc c) max-rows
-sound-or-not k (Element-node x i f) = ⊎-elim (λ (a, (b, c)). inl (a, b, c)) (λ none. inr (λ (a, b, c). none (a, (b, c)))) (both-or-not (at-most (suc x) label-count) (both-or-not (at-most (suc i) k) (at-most (suc f) k)))
+sound-or-not k (Reference c) = below-or-not c max-rows
+sound-or-not k (Element-node x i f) = ⊎-elim (λ (a, (b, c)). inl (a, b, c)) (λ none. inr (λ (a, b, c). none (a, (b, c)))) (both-or-not (below-or-not x label-count) (both-or-not (below-or-not i k) (below-or-not f k)))
 
 module _ (room : ℕ) (nodes : List Node) (root : ℕ) where
   writes-document : (o : Outcome (List ℕ)) × WritesDocument room nodes root o
   writes-document = ⊎-elim
-      (λ many. (refuses (refusal 30 []), is-many many))
+      (λ many. (refuses (write-refusal ManyNodes), is-many many))
       (λ few. ⊎-elim
-      (λ (k, lowest). (refuses (refusal 31 (k ∷ [])), is-unsound few lowest))
+      (λ (k, lowest). (refuses (write-refusal (unsound-node k)), is-unsound few lowest))
       (λ all. let sound : Sound nodes = record { each = λ k {m} e. all k m e } in ⊎-elim
       (λ inside. let (d, _, t, _) = nodes-stand-for-one nodes sound root inside in
-      ⊎-elim (λ long. (refuses (refusal 45 []), is-long d few sound t long)) (λ fits. (gives (spelled-document d), is-written d few sound t fits)) (cases-lt (min room max-document) (length (spelled-document d))))
-      (λ outside. (refuses (refusal 32 []), is-outside few sound outside))
+      ⊎-elim (λ long. (refuses (write-refusal TooLong), is-long d few sound t long)) (λ fits. (gives (spelled-document d), is-written d few sound t fits)) (cases-lt (min room max-document) (length (spelled-document d))))
+      (λ outside. (refuses (write-refusal RootOutside), is-outside few sound outside))
       (cases-lt root (length nodes)))
       (faulty nodes SoundAt sound-or-not))
       (cases-lt max-nodes (length nodes))
@@ -88,7 +63,7 @@ module _ (room : ℕ) (nodes : List Node) (root : ℕ) where
   same-document (is-many h) (is-long d f s t l) = absurd (omega arith)
   same-document (is-many h) (is-written d f s t l) = absurd (omega arith)
   same-document (is-unsound f low) (is-many h) = absurd (omega arith)
-  same-document (is-unsound {k} f low) (is-unsound {k = j} f′ low′) = ap (λ x. refuses (refusal 31 (x ∷ []))) (lowest-one (Unsound nodes) j k low′ low)
+  same-document (is-unsound {k} f low) (is-unsound {k = j} f′ low′) = ap (λ x. refuses (write-refusal (unsound-node x))) (lowest-one (Unsound nodes) j k low′ low)
   same-document (is-unsound f low) (is-outside f′ s o) = absurd (sound-everywhere s low)
   same-document (is-unsound f low) (is-long d f′ s t l) = absurd (sound-everywhere s low)
   same-document (is-unsound f low) (is-written d f′ s t l) = absurd (sound-everywhere s low)

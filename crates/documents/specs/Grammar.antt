@@ -2,7 +2,7 @@
 use mathlib.Core.Path.{_≡_}
 use mathlib.Core.List.{List, [], _∷_, _++_}
 use mathlib.Core.Logic.{_⊎_, _↔_}
-use Prim.Native.Nat.{ℕ, suc, _-_, _<_, _≤_, max}
+use Prim.Native.Nat.{ℕ, suc, _-_, _<_, max}
 use lib.ListN.{length, getD, take}
 use lib.Dec.{eqb}
 use Rattle.std.specs.Written.{decimal}

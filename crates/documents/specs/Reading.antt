@@ -1,6 +1,6 @@
 -- Reading document text into a buffer of nodes: every text has one outcome. Assumes nothing.
 use mathlib.Core.Path.{_≡_}
-use mathlib.Core.List.{List, [], _∷_}
+use mathlib.Core.List.{List}
 use Prim.Native.Nat.{ℕ, suc, min, _<_, _≤_}
 use lib.ListN.{length, take}
 use mathlib.Core.Logic.{_↔_}
@@ -8,21 +8,22 @@ use Rattle.forms.specs.Documents.{Document}
 use Rattle.documents.specs.Grammar.{Text, Small, spelled-document, GoesOn, WrongAt, OpensTooMany, levels}
 use Rattle.forms.specs.Places.{Nowhere, NoneBelow, Lowest}
 use Rattle.forms.specs.Refusals.{Outcome}
-use Rattle.forms.specs.Refusals.Refusal.{refusal}
 use Rattle.forms.specs.Refusals.Outcome.{refuses, gives}
 use Rattle.documents.specs.Limits.{max-nodes, max-document, max-levels}
 use Rattle.documents.specs.Nodes.{nodes-of}
+use Rattle.documents.specs.declared.faults.ReadFault.the-variants.{TooLong, Wrong, TooDeep, TooManyNodes}
+use Rattle.documents.specs.Faults.{read-refusal}
 
--- What reading into a buffer of so many nodes gives: refusal 40; 41 with the place; 43 with the place; 44; or the document.
+-- What reading into a buffer of so many nodes gives: a fault, or the document.
 pub data Reads (buffer : ℕ) (bytes : List ℕ) : Outcome Document → Type 0 where
   -- more than 32,768 bytes
-  is-long : max-document < length bytes → Reads buffer bytes (refuses (refusal 40 []))
+  is-long : max-document < length bytes → Reads buffer bytes (refuses (read-refusal TooLong))
   -- at the lower place: wrong there, and no bracket below it opens a 65th level
-  is-wrong : {k : ℕ} → length bytes ≤ max-document → WrongAt bytes k → NoneBelow (OpensTooMany bytes) k → Reads buffer bytes (refuses (refusal 41 (k ∷ [])))
+  is-wrong : {k : ℕ} → length bytes ≤ max-document → WrongAt bytes k → NoneBelow (OpensTooMany bytes) k → Reads buffer bytes (refuses (read-refusal (Wrong k)))
   -- or the first bracket that opens a 65th level, and the bytes go on up to it
-  is-deep : {k : ℕ} → length bytes ≤ max-document → Lowest (OpensTooMany bytes) k → GoesOn (take (suc k) bytes) → Reads buffer bytes (refuses (refusal 43 (k ∷ [])))
+  is-deep : {k : ℕ} → length bytes ≤ max-document → Lowest (OpensTooMany bytes) k → GoesOn (take (suc k) bytes) → Reads buffer bytes (refuses (read-refusal (TooDeep k)))
   -- a text, but of more nodes than the buffer has, or than 4,160
-  is-large : (d : Document) → length bytes ≤ max-document → Text bytes d → Nowhere (OpensTooMany bytes) → min buffer max-nodes < length (nodes-of d) → Reads buffer bytes (refuses (refusal 44 []))
+  is-large : (d : Document) → length bytes ≤ max-document → Text bytes d → Nowhere (OpensTooMany bytes) → min buffer max-nodes < length (nodes-of d) → Reads buffer bytes (refuses (read-refusal TooManyNodes))
   is-read : {d : Document} → length bytes ≤ max-document → Text bytes d → Nowhere (OpensTooMany bytes) → length (nodes-of d) ≤ min buffer max-nodes → Reads buffer bytes (gives d)
 
 abbrev pub Reading-is-one : Type 0

@@ -1,7 +1,6 @@
 // Reading document text into a table of nodes.
 ghost use mathlib.Core.Path.{_≡_};
-ghost use mathlib.Core.Bool.{cond};
-ghost use Prim.Native.Nat.{ℕ, min, _+_, _<_, _≤_};
+ghost use Prim.Native.Nat.{min, _+_, _<_, _≤_};
 ghost use lib.Dec.{ltb};
 ghost use lib.ListN.{length, getD, set};
 ghost use Rattle.std.specs.Options.{Cases as BySome};
@@ -9,7 +8,7 @@ ghost use Rattle.documents.specs.declared.nodes.Node.the-variants.{Element};
 ghost use Rattle.documents.specs.Limits.{max-nodes, max-document};
 ghost use Rattle.documents.specs.Built.{Ready, Onward, ReadsNumber, BuildsList, BuildsItem, BuildsText};
 ghost use Rattle.documents.specs.Answers.{ReadInto, WritesBack};
-ghost use Rattle.documents.specs.Grammar.{Texts-are-unambiguous};
+ghost use Rattle.documents.specs.Grammar.{Texts-are-unambiguous, Wrong-at-one-place};
 ghost use Rattle.documents.specs.Reading.{Reading-is-one, Read-is-spelled};
 use super::faults::ReadFault;
 use super::nodes::MAX_DOCUMENT;
@@ -197,6 +196,7 @@ pub fn read_document(text: &[u8], nodes: &mut [Node]) -> Result<usize, ReadFault
     ensures one { λ _. ⌜ Reading-is-one ⌝ }
     ensures whole { λ _. ⌜ Read-is-spelled ⌝ }
     ensures plain { λ _. ⌜ Texts-are-unambiguous ⌝ }
+    ensures place { λ _. ⌜ Wrong-at-one-place ⌝ }
 {
     if text.len() > MAX_DOCUMENT {
         return Err(ReadFault::TooLong);

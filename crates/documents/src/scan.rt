@@ -1,9 +1,9 @@
 // A scan of document text, byte by byte: where it goes on, how deep its brackets are, and how many nodes it takes.
 ghost use mathlib.Core.Path.{_≡_};
 ghost use mathlib.Core.Bool.{cond};
-ghost use Prim.Native.Nat.{ℕ, _≤_};
+ghost use Prim.Native.Nat.{_≤_};
 ghost use Rattle.documents.specs.declared.scan.State.the-variants.{Within};
-ghost use Rattle.documents.specs.Limits.{max-levels, max-document};
+ghost use Rattle.documents.specs.Limits.{max-levels};
 ghost use Rattle.documents.specs.Scan.{may-end, is-digit, may-follow, closed, begun, moved, step, is-whole};
 ghost use Rattle.documents.specs.Judged.{JudgedAs, marks};
 use forms::MAX_ROWS;

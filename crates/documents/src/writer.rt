@@ -1,12 +1,9 @@
 // Writing the document of a node as text.
 ghost use mathlib.Core.Path.{_≡_};
-ghost use mathlib.Core.List.{[], _∷_};
-ghost use Prim.Native.Nat.{ℕ, _+_, _<_, _≤_};
+ghost use Prim.Native.Nat.{_<_};
 ghost use lib.ListN.{length};
-ghost use Rattle.std.specs.Written.{decimal};
 ghost use Rattle.std.specs.Options.{Cases as BySome};
 ghost use Rattle.std.specs.Orderings.{Decides};
-ghost use Rattle.forms.specs.Limits.{max-rows};
 ghost use Rattle.forms.specs.Places.{Lowest};
 ghost use Rattle.forms.specs.Splices.{Wrote};
 ghost use Rattle.forms.specs.Documents.{Document};
@@ -20,6 +17,9 @@ use super::nodes::MAX_DOCUMENT;
 use super::nodes::MAX_NODES;
 use super::nodes::Node;
 use forms::MAX_ROWS;
+use forms::bytes::digits;
+use forms::bytes::put;
+use forms::bytes::put_number;
 
 // Labels are numbered from 0 to one less than this.
 const LABELS: u8 = 64;
@@ -80,13 +80,6 @@ fn look(nodes: &[Node], k: u16) -> Shape
     }
 }
 
-// How many digits a number has.
-fn digits(number: u8) -> usize
-    ensures { λ r. ⌜ (number < max-rows → r ≡ length (decimal number)) × (r ≤ 2) ⌝ }
-{
-    if number < 10 { 1 } else { 2 }
-}
-
 // The room that is left after n bytes.
 fn spend(room: usize, n: usize) -> Option<usize>
     ensures { λ r. ⌜ r ≡ rest room n ⌝ }
@@ -114,28 +107,6 @@ fn measure(nodes: &[Node], k: u16, room: usize) -> Option<usize>
             },
             None => None,
         },
-    }
-}
-
-// Writes one byte, where there is room, and answers the place behind it.
-fn put(out: &mut [u8], place: usize, byte: u8) -> usize
-    ensures { λ r. ⌜ Wrote (now (out .entry)) (now (out .exit)) place (byte ∷ []) r ⌝ }
-{
-    if place < out.len() {
-        out[place] = byte;
-    }
-    place.saturating_add(1)
-}
-
-// Writes a number of one digit or two.
-fn put_number(out: &mut [u8], place: usize, number: u8) -> usize
-    ensures { λ r. ⌜ (number < max-rows → Wrote (now (out .entry)) (now (out .exit)) place (decimal number) r) ⌝ }
-{
-    if number < 10 {
-        put(out, place, b'0' + number)
-    } else {
-        let next = put(out, place, b'0' + number / 10 % 10);
-        put(out, next, b'0' + number % 10)
     }
 }
 

@@ -1,33 +1,25 @@
 -- Row buffers as they are filled. Assumes nothing.
 use mathlib.Core.Path.{_≡_, sym, ap, _∙_}
 use mathlib.Core.List.{List, [], _∷_, _++_}
-use mathlib.Core.Bool.{true, false, cond}
-use mathlib.Core.Logic.{⊎-elim, _≢_}
+use mathlib.Core.Bool.{true, false}
+use mathlib.Core.Logic.{⊎-elim}
 use Prim.Native.Nat.{ℕ, _+_, _≤_, _<_}
 use native.Mathlib.Omega.{arith}
 use lib.Dec.{ltb, leb}
 use lib.ListN.{length, getD, set, take, replicate, length-take}
-use Rattle.std.specs.shelf.Maps.{nth}
-use Rattle.std.specs.declared.option.Option.the-variants.{Some, None}
-use Rattle.std.proofs.shelf.Tests.{cases-eq, cases-lt, cond-true, cond-false, lt-ltb, le-ltb, le-leb, lt-leb}
-use Rattle.std.proofs.shelf.Lists.{take-more-set, take-more, getD-set-same, getD-set-other, getD-take, getD-replicate, getD-past}
-use Rattle.std.proofs.shelf.Maps.{nth-getD, nth-past}
+use Rattle.std.proofs.shelf.Tests.{cases-eq, cases-lt, cond-true, cond-false, lt-ltb, le-ltb, le-leb}
+use Rattle.std.proofs.shelf.Lists.{take-more-set, take-more, getD-set-same, getD-set-other, getD-replicate, getD-past}
 use Rattle.forms.specs.declared.Row.{Row}
 use Rattle.forms.specs.declared.Row.the-variants.{Void}
+use Rattle.forms.specs.declared.buffer.RowBuffer.{RowBuffer}
 use Rattle.forms.specs.Limits.{max-rows}
 use Rattle.forms.specs.Rows.{fits, few}
-use Rattle.forms.specs.Buffers.{pushed}
+use Rattle.forms.specs.Buffers.{rows-of, pushed}
 
 -- a table of which the first n rows count
 module _ (table : List Row) (n : ℕ) (long : length table ≡ max-rows) (within : n ≤ max-rows) where
   pub count-is : length (take n table) ≡ n
   count-is = simp length-take (omega arith)
-
-  pub row-is : (k : ℕ) → k < n → Some (getD table k Void) ≡ nth (take n table) k
-  row-is k h = let lt : k < length (take n table) = omega (arith, count-is) in sym (nth-getD (take n table) k Void lt ∙ ap Some (getD-take n table k Void h))
-
-  pub row-none : (k : ℕ) → n ≤ k → None ≡ nth (take n table) k
-  row-none k h = sym (nth-past (take n table) k (omega (arith, count-is)))
 
   pub is-full : max-rows ≤ n → false ≡ ltb (length (take n table)) max-rows
   is-full h = sym (le-ltb (length (take n table)) max-rows (omega (arith, count-is)))
@@ -60,11 +52,12 @@ copied-more rows held i row h le e is =
     let l : length held < max-rows = omega (arith, ap length e, length-take i rows) in
     pushed-is held row l ∙ ap (λ x. x ++ (row ∷ [])) e ∙ ap (λ x. take i rows ++ (x ∷ [])) is ∙ sym (take-more rows i Void h)
 
+-- the same of a buffer, before and after the push
+pub buffer-copied-more : (rows : List Row) (i : ℕ) (row : Row) (before after now : RowBuffer) → i < length rows → length rows ≤ max-rows → rows-of before ≡ take i rows → row ≡ getD rows i Void → rows-of after ≡ pushed (rows-of before) row → now ≡ after → rows-of now ≡ take (i + 1) rows
+buffer-copied-more rows i row before after now h le e is push same = ap rows-of same ∙ push ∙ copied-more rows (rows-of before) i row h le e is
+
 pub few-is : (rows : List Row) → length rows ≤ max-rows → few rows ≡ rows
 few-is rows h = cond-true (leb (length rows) max-rows) rows [] (le-leb (length rows) max-rows h)
-
-pub few-none : (rows : List Row) → max-rows < length rows → few rows ≡ []
-few-none rows h = cond-false (leb (length rows) max-rows) rows [] (lt-leb (length rows) max-rows h)
 
 pub all-void : (k : ℕ) → getD (replicate max-rows Void) k Void ≡ Void
 all-void k = ⊎-elim

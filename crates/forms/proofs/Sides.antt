@@ -1,12 +1,13 @@
 -- Where a row of a joined or a turned table comes from. Assumes nothing.
 use mathlib.Core.Path.{_≡_, sym, ap, _∙_}
-use mathlib.Core.List.{List, [], _++_, map}
+use mathlib.Core.List.{List, [], map}
 use mathlib.Core.Logic.{⊎-elim}
 use Prim.Native.Nat.{ℕ, _+_, _-_, _≤_, _<_}
 use native.Mathlib.Omega.{arith}
 use lib.Dec.{leb}
 use lib.ListN.{length, getD, length-map}
 use Rattle.std.specs.shelf.Maps.{nth}
+use Rattle.std.specs.declared.option.Option.{Option}
 use Rattle.std.specs.declared.option.Option.the-variants.{Some, None}
 use Rattle.std.proofs.shelf.Tests.{cases-lt, cond-true, cond-false, le-leb, lt-leb}
 use Rattle.std.proofs.shelf.Lists.{getD-append-left, getD-append-right, getD-map}
@@ -16,16 +17,16 @@ use Rattle.forms.specs.declared.Row.the-variants.{Void}
 use Rattle.forms.specs.Limits.{max-rows}
 use Rattle.forms.specs.Rows.{sides, joined, shift, turn}
 use Rattle.forms.specs.Laws.{length-sides}
-
--- for a case that two equations rule out: `never (cc)`
-pub never : {A : Type 0} → _≡_ {A = ℕ} 0 1 → A
-never z = absurd (omega arith)
+pub use Rattle.forms.proofs.Findings.{never}
 
 pub some-nth : (rows : List Row) (k : ℕ) (r : Row) → Some r ≡ nth rows k → (k < length rows) × (r ≡ getD rows k Void)
 some-nth rows k r e = ⊎-elim
     (λ lt. (lt, let w : Some r ≡ Some (getD rows k Void) = e ∙ nth-getD rows k Void lt in cc))
     (λ le. let w : Some r ≡ None = e ∙ nth-past rows k le in never (cc))
     (cases-lt k (length rows))
+
+pub row-there : (rows : List Row) (k : ℕ) (o : Option Row) → k < length rows → o ≡ nth rows k → o ≡ Some (getD rows k Void)
+row-there rows k o lt e = e ∙ nth-getD rows k Void lt
 
 pub none-nth : (rows : List Row) (k : ℕ) → None ≡ nth rows k → length rows ≤ k
 none-nth rows k e = ⊎-elim

@@ -1,7 +1,7 @@
 -- Writes one after another. Assumes nothing.
-use mathlib.Core.Path.{_≡_, refl, sym, ap, ap₂, _∙_}
+use mathlib.Core.Path.{_≡_, sym, ap, ap₂, _∙_}
 use mathlib.Core.List.{List, [], _∷_, _++_}
-use Prim.Native.Nat.{ℕ, suc, _+_, _≤_, _<_}
+use Prim.Native.Nat.{ℕ, _+_, _≤_, _<_}
 use native.Mathlib.Omega.{arith}
 use native.Mathlib.Numerals.{add-one}
 use lib.ListN.{length, set, take, drop, length-append, length-take, length-drop}
@@ -52,3 +52,7 @@ wrote-both o m n p q r s t first second room =
     let long : length m ≡ length o = ap length em ∙ length-splice o p s fits in
     let (er, en) = second (omega arith) in
     (omega arith, en ∙ ap (λ x. spliced x q t) em ∙ splice-both o p s fits t q eq)
+
+-- what is written from the start on stands at the front, and the rest stays
+pub wrote-front : {A : Type 0} (o n s : List A) (r : ℕ) → Wrote o n 0 s r → length s ≤ length o → (r ≡ length s) × (n ≡ s ++ drop r o)
+wrote-front o n s r wrote fits = let (is, e) = wrote (omega arith) in (omega arith, e ∙ ap (λ k. s ++ drop k o) (sym is))

@@ -1,7 +1,7 @@
 -- Each make of source keeps to the laws of sources. Assumes nothing.
 use mathlib.Core.Path.{_≡_}
-use mathlib.Core.List.{List, [], _++_, map}
-use mathlib.Core.Bool.{true, cond, _&&_}
+use mathlib.Core.List.{List, [], map}
+use mathlib.Core.Bool.{true, _&&_}
 use Prim.Native.Nat.{ℕ, _+_, _^_, _≤_, _<_}
 use native.Mathlib.Omega.{arith}
 use lib.Dec.{leb, ltb}

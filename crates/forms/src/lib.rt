@@ -1,13 +1,13 @@
 // Tables of forms: rows, and the sources that give them.
 ghost use mathlib.Core.Path.{_≡_};
 ghost use mathlib.Core.List.{List};
-ghost use Prim.Native.Nat.{ℕ};
 ghost use lib.ListN.{length};
 ghost use Rattle.std.specs.shelf.Maps.{nth};
 ghost use Rattle.forms.specs.declared.Row.{Row};
 ghost use Rattle.forms.specs.Rows.{Lawful};
 
 pub mod buffer;
+pub mod bytes;
 pub mod makes;
 
 // The most rows that a table has.

@@ -1,7 +1,7 @@
 // Sources above other sources: two side by side, and one turned.
 ghost use mathlib.Core.Path.{_≡_};
-ghost use mathlib.Core.List.{List, map};
-ghost use Prim.Native.Nat.{ℕ, _+_, _≤_};
+ghost use mathlib.Core.List.{map};
+ghost use Prim.Native.Nat.{_+_, _≤_};
 ghost use Rattle.forms.specs.Limits.{max-rows};
 ghost use Rattle.forms.specs.Rows.{raised, shift, joined, turn};
 ghost use Rattle.forms.specs.Laws.{joined-laws, turned-laws};

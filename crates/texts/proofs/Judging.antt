@@ -21,7 +21,7 @@ use Rattle.texts.specs.declared.kinds.Kind.{Kind}
 use Rattle.texts.specs.Faults.{text-refusal}
 use Rattle.texts.specs.Limits.{max-text, label-digits}
 use Rattle.texts.specs.RowText.Judged.{is-long, is-wrong, is-more, is-right}
-use Rattle.texts.proofs.Findings.{never}
+use Rattle.forms.proofs.Findings.{never}
 use Rattle.texts.proofs.Numbers.{Figures, figures, length-hexadecimal}
 use Rattle.texts.proofs.Numbers.Figures.{one, two}
 use Rattle.texts.proofs.RightLines.{row-line, line-row, fields-one, rows-line-one, Right-line, line-or-wrong, fewer-fields}

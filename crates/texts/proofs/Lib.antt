@@ -1,4 +1,3 @@
-pub mod Findings
 pub mod Numbers
 pub mod RightLines
 pub mod Judging

@@ -14,7 +14,7 @@ use Rattle.std.proofs.shelf.Tests.{cases-lt, lt-ltb, le-ltb}
 use Rattle.std.proofs.shelf.Ways.{tells}
 use Rattle.forms.specs.Limits.{max-rows}
 use Rattle.texts.specs.RowText.{HexDigit, hex-digit, hexadecimal}
-use Rattle.texts.proofs.Findings.{Decided, least-below, same-or-not}
+use Rattle.forms.proofs.Findings.{Decided, least-below, same-or-not}
 
 -- one digit, or two of which the first is not 0
 pub data Figures (n : ℕ) : List ℕ → Type 0 where

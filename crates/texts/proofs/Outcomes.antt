@@ -1,18 +1,16 @@
 -- Writing has one outcome, and writing and reading undo each other.
 use mathlib.Core.Path.{_≡_, refl, ap, sym, subst}
 use mathlib.Core.List.{List, [], _∷_}
-use mathlib.Core.Logic.{_⊎_, inl, inr, ⊎-elim}
-use Prim.Native.Nat.{ℕ, zero, suc, _<_, _≤_}
+use mathlib.Core.Logic.{inl, ⊎-elim}
+use Prim.Native.Nat.{ℕ, zero, suc, _≤_}
 use native.Mathlib.Omega.{arith}
 use lib.ListN.{length}
 use Rattle.std.specs.shelf.Lists.{All}
-use Rattle.std.specs.shelf.Maps.{nth}
-use Rattle.std.specs.declared.option.Option.the-variants.{Some}
 use Rattle.std.proofs.shelf.Tests.{cases-lt}
 use Rattle.forms.specs.declared.Row.{Row}
 use Rattle.forms.specs.declared.Row.the-variants.{Void, Nothing, Channel, Element, Union}
 use Rattle.forms.specs.Limits.{max-rows}
-use Rattle.forms.specs.Places.{Nowhere, Lowest}
+use Rattle.forms.specs.Places.{Nowhere}
 use Rattle.forms.specs.Refusals.{Outcome}
 use Rattle.forms.specs.Refusals.Outcome.{refuses, gives}
 use Rattle.forms.specs.Rows.{NumbersBelow, Labelled}
@@ -21,11 +19,8 @@ use Rattle.texts.specs.Faults.{rows-refusal}
 use Rattle.texts.specs.RowText.{spelled, Proper}
 use Rattle.texts.specs.Writing.{NumberOver, WritesRows, Writing-rows-is-one, Written-rows-are-right, Right-rows-are-written}
 use Rattle.texts.specs.Writing.WritesRows.{is-over, is-long, is-written}
-use Rattle.texts.proofs.Findings.{never, Decided, both-or-not, least-below, lowest-one}
+use Rattle.forms.proofs.Findings.{never, Decided, both-or-not, below-or-not, lowest-one, faulty}
 use Rattle.texts.proofs.Judging.{right-is-spelled}
-
-below-or-not : (m n : ℕ) → Decided (m < n)
-below-or-not m n = ⊎-elim inl (λ l. inr (λ h. omega arith)) (cases-lt m n)
 
 pub numbered-or-not : (r : Row) → Decided (NumbersBelow max-rows r)
 numbered-or-not Void = inl tt
@@ -33,32 +28,6 @@ numbered-or-not Nothing = inl tt
 numbered-or-not (Channel c s) = below-or-not s max-rows
 numbered-or-not (Element l i n) = both-or-not (below-or-not i max-rows) (below-or-not n max-rows)
 numbered-or-not (Union l r) = both-or-not (below-or-not l max-rows) (below-or-not r max-rows)
-
--- the k-th of a list has a fault, or it has none
-abbrev Fault : {X : Type 0} → List X → (ℕ → X → Type 0) → ℕ → Type 0
-Fault {X} xs P k = (x : X) × (nth xs k ≡ Some x) × (P k x → ⊥)
-
-fault-or-not : {X : Type 0} (xs : List X) (P : ℕ → X → Type 0) → ((k : ℕ) (x : X) → Decided (P k x)) → (k : ℕ) → Decided (Fault xs P k)
-fault-or-not {X} xs P test k = ⊎-elim
-    (λ (x, e). ⊎-elim (λ h. inr (λ (y, e′, np). let ey : x ≡ y = cc in np (subst (P k) ey h))) (λ np. inl (x, e, np)) (test k x))
-    (λ none. inr (λ (y, e, np). none y e))
-    (entry xs k)
-  where
-    entry : (xs : List X) (k : ℕ) → ((x : X) × (nth xs k ≡ Some x)) ⊎ ((x : X) → nth xs k ≡ Some x → ⊥)
-    entry [] k = inr (λ x e. never (cc))
-    entry (x ∷ xs) zero = inl (x, refl)
-    entry (x ∷ xs) (suc k) = entry xs k
-
-pub nth-below : {X : Type 0} (xs : List X) (k : ℕ) {x : X} → nth xs k ≡ Some x → k < length xs
-nth-below [] k e = never (cc)
-nth-below (y ∷ xs) zero e = omega arith
-nth-below (y ∷ xs) (suc k) e = omega (arith, nth-below xs k e)
-
-faulty : {X : Type 0} (xs : List X) (P : ℕ → X → Type 0) → ((k : ℕ) (x : X) → Decided (P k x)) → ((k : ℕ) × Lowest (Fault xs P) k) ⊎ ((k : ℕ) (x : X) → nth xs k ≡ Some x → P k x)
-faulty xs P test = ⊎-elim
-    (λ (k, h, lowest). inl (k, lowest))
-    (λ none. inr (λ k x e. ⊎-elim (λ h. h) (λ np. absurd (none k (nth-below xs k e) (x, e, np))) (test k x)))
-    (least-below (fault-or-not xs P test) (length xs))
 
 -- ROWS
 module _ (room : ℕ) (rows : List Row) where

@@ -21,7 +21,7 @@ use Rattle.texts.specs.declared.kinds.Kind.{Kind}
 use Rattle.texts.specs.declared.kinds.Kind.the-variants.{Void as void, Nothing as nothing, Channel as channel, Element as element, Union as union}
 use Rattle.texts.specs.Limits.{label-digits}
 use Rattle.texts.specs.RowText.Content.{the-letter, a-capability, a-label-set, a-number, no-bytes}
-use Rattle.texts.proofs.Findings.{never, Decided, both-or-not, same-or-not, all-or-not}
+use Rattle.forms.proofs.Findings.{never, Decided, both-or-not, same-or-not, all-or-not}
 use Rattle.texts.proofs.Numbers.{Figures, figures, decimal-one, number-or-not, length-hexadecimal, hexadecimal-is, hexadecimal-one, hexadecimal-value}
 use Rattle.texts.proofs.Numbers.Figures.{one, two}
 

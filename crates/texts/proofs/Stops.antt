@@ -8,7 +8,7 @@ use lib.ListN.{length, getD, take, drop}
 use Rattle.std.proofs.shelf.Lists.{take-more, drop-more, drop-all, append-assoc, append-nil, getD-drop, length-drop}
 use Rattle.texts.specs.RowText.{stops, field, from-stop, end-of}
 use Rattle.texts.specs.Reading.{Ended}
-use Rattle.texts.proofs.Findings.{never}
+use Rattle.forms.proofs.Findings.{never}
 use Rattle.texts.proofs.RightLines.{end-stops}
 
 -- no stop from the start to the end

@@ -11,10 +11,9 @@ use Rattle.std.proofs.shelf.Elements.{all-push}
 use Rattle.std.proofs.shelf.Tests.{cond-true, lt-ltb}
 use Rattle.forms.specs.declared.Row.{Row}
 use Rattle.forms.specs.Limits.{max-rows}
-use Rattle.forms.specs.Refusals.{Outcome}
 use Rattle.forms.specs.Refusals.Outcome.{refuses, gives}
 use Rattle.forms.specs.Buffers.{pushed}
-use Rattle.texts.specs.declared.TextFault.the-variants.{TooLong, WrongLine, TooManyLines}
+use Rattle.texts.specs.declared.TextFault.the-variants.{WrongLine, TooManyLines}
 use Rattle.texts.specs.Faults.{text-refusal}
 use Rattle.texts.specs.Limits.{max-text}
 use Rattle.texts.specs.RowText.{spelled-row, spelled, Proper, FirstWrong, RightLines, Judged}

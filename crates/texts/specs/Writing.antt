@@ -1,8 +1,8 @@
 -- Writing rows as text into a buffer of bytes: every call has one outcome. Assumes nothing.
 use mathlib.Core.Path.{_≡_}
-use mathlib.Core.List.{List, [], _∷_}
-use Prim.Native.Nat.{ℕ, _+_, _<_, _≤_}
-use lib.ListN.{length, set}
+use mathlib.Core.List.{List}
+use Prim.Native.Nat.{ℕ, _<_, _≤_}
+use lib.ListN.{length}
 use Rattle.std.specs.shelf.Lists.{All}
 use Rattle.std.specs.shelf.Maps.{nth}
 use Rattle.std.specs.declared.option.Option.the-variants.{Some}
@@ -39,13 +39,3 @@ Written-rows-are-right = (room : ℕ) (rows : List Row) (text : List ℕ) → le
 -- What a right text means is written as the same text, into any buffer with room for it.
 abbrev pub Right-rows-are-written : Type 0
 Right-rows-are-written = (room : ℕ) (rows : List Row) (text : List ℕ) → Judged text (gives rows) → length text ≤ room → WritesRows room rows (gives text)
-
--- The bytes laid into a buffer from a place on, one after another.
-abbrev pub laid : List ℕ → ℕ → List ℕ → List ℕ
-laid out place [] = out
-laid out place (b ∷ bs) = laid (set out place b) (place + 1) bs
-
--- What a writer of bytes leaves: the bytes from the place on, and the place behind them.
-pub record Lays (bytes before after : List ℕ) (place next : ℕ) : Type 0 where
-  pub behind : next ≡ place + length bytes
-  pub holds : after ≡ laid before place bytes

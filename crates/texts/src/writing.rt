@@ -1,15 +1,14 @@
 // Writing rows as text: first measured, then written.
 ghost use mathlib.Core.Path.{_≡_};
-ghost use Prim.Native.Nat.{_+_, _<_, _≤_};
+ghost use Prim.Native.Nat.{_≤_};
 ghost use lib.Dec.{ltb};
 ghost use lib.ListN.{length};
 ghost use Rattle.std.specs.Orderings.{Decides};
-ghost use Rattle.std.specs.Written.{decimal};
 ghost use Rattle.forms.specs.Limits.{max-rows};
-ghost use Rattle.forms.specs.Places.{Nowhere};
 ghost use Rattle.forms.specs.Rows.{NumbersBelow};
+ghost use Rattle.forms.specs.Splices.{Wrote};
 ghost use Rattle.texts.specs.RowText.{spelled-row, spelled};
-ghost use Rattle.texts.specs.Writing.{NumberOver, Lays, Writing-rows-is-one, Written-rows-are-right};
+ghost use Rattle.texts.specs.Writing.{Writing-rows-is-one, Written-rows-are-right};
 ghost use Rattle.texts.specs.Calls.{TotalFound, RowsWritten, ReadsBack};
 use super::RowsFault;
 use super::bytes;
@@ -18,6 +17,7 @@ use forms::FormSource;
 use forms::MAX_ROWS;
 use forms::Row;
 use forms::buffer::RowBuffer;
+use forms::bytes::digits;
 
 fn in_range(number: u8) -> bool
     ensures { λ r. ⌜ r ≡ ltb number max-rows ⌝ }
@@ -42,18 +42,10 @@ fn spellable(row: Row) -> bool
     }
 }
 
-// How many digits a row number has.
-fn digits(number: u8) -> usize
-    ensures few { λ r. ⌜ r ≤ 2 ⌝ }
-    ensures value { λ r. ⌜ (number < max-rows → r ≡ length (decimal number)) ⌝ }
-{
-    if number < 10 { 1 } else { 2 }
-}
-
 // The length of a row's line: its letter, three commas and byte 10, and its fields.
 fn line_length(row: Row) -> usize
-    ensures few { λ r. ⌜ r ≤ 25 ⌝ }
-    ensures value { λ r. ⌜ (NumbersBelow max-rows row → r ≡ length (spelled-row row)) ⌝ }
+    ensures value { λ r. ⌜ r ≡ length (spelled-row row) ⌝ }
+    ensures few { λ r. ⌜ r ≤ 27 ⌝ }
 {
     match row {
         Row::Void => 5,
@@ -83,11 +75,9 @@ fn measure(rows: &[Row]) -> Result<usize, RowsFault>
     Ok(total)
 }
 
-// Writes the text of rows, for which there is room, and returns its length.
+// Writes the text of rows, where there is room for it, and returns its length.
 fn write(rows: &[Row], out: &mut [u8]) -> usize
-    requires below { ⌜ Nowhere (NumberOver (now rows)) ⌝ }
-    requires room { ⌜ length (spelled (now rows)) ≤ length (now out) ⌝ }
-    ensures { λ r. ⌜ Lays (spelled (now (rows .entry))) (now (out .entry)) (now (out .exit)) 0 r ⌝ }
+    ensures { λ r. ⌜ Wrote (now (out .entry)) (now (out .exit)) 0 (spelled (now (rows .entry))) r ⌝ }
 {
     let mut place = 0;
     for row in rows {

@@ -13,8 +13,7 @@ returns-then-not-spellable c = (c .loop-number .number, refl, measured-over (c .
 
 pub loop-number-again : need.loop-number-again
 loop-number-again c =
-    let below = c .spellable .ensures .0 (c .if-not-spellable .left) in
-    measured-more (c .args .rows .now) (c .loop-number .number) (c .loop-number .total) (c .line-length-total .result) (getD (c .args .rows .now) (c .loop-number .number) Void) (c .loop-number-test .taken) refl (c .loop-number .inv) below (c .line-length-total .ensures .few) (c .line-length-total .ensures .value below)
+    measured-more (c .args .rows .now) (c .loop-number .number) (c .loop-number .total) (c .line-length-total .result) (getD (c .args .rows .now) (c .loop-number .number) Void) (c .loop-number-test .taken) refl (c .loop-number .inv) (c .spellable .ensures .0 (c .if-not-spellable .left)) (c .line-length-total .ensures .few) (c .line-length-total .ensures .value)
 
 pub returns : need.returns
 returns c = measured-all (c .args .rows .now) (c .loop-number .number) (c .loop-number .total) (c .loop-number-test .left) (c .loop-number .inv)

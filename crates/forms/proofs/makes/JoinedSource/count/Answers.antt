@@ -1,5 +1,5 @@
 use borrow.Author.Needs.{needs}
-use Rattle.forms.proofs.Sides.{length-joined, joined-many}
+use Rattle.forms.proofs.Sides.{length-joined}
 use Rattle.forms.proofs.makes.JoinedSource.count.Needs as need
 
 pub returns-else-both-gt-MAX-ROWS : need.returns-else-both-gt-MAX-ROWS

@@ -1,0 +1,6 @@
+use borrow.Author.Needs.{needs}
+use Rattle.forms.proofs.Splices.{wrote-none}
+use Rattle.texts.proofs.bytes.put_third.Needs as need
+
+pub returns-in-Void : need.returns-in-Void
+returns-in-Void c = search (needs, wrote-none)
