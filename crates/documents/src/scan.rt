@@ -6,13 +6,11 @@ ghost use Rattle.documents.specs.declared.scan.State.the-variants.{Within};
 ghost use Rattle.documents.specs.Limits.{max-levels};
 ghost use Rattle.documents.specs.Scan.{may-end, is-digit, may-follow, closed, begun, moved, step, is-whole};
 ghost use Rattle.documents.specs.Judged.{JudgedAs, marks};
+use forms::LABELS;
 use forms::MAX_ROWS;
 
 // Brackets stand in brackets at most so deep.
 const MAX_LEVELS: usize = 64;
-
-// Labels are numbered from 0 to one less than this.
-const LABELS: usize = 64;
 
 // Where in a list the scan is.
 #[derive(Clone, Copy)]
@@ -97,7 +95,7 @@ fn advance(level: usize, phase: Phase, byte: u8) -> State
     match phase {
         Phase::MayBegin | Phase::MustBegin => begin(level, byte),
         Phase::InLabel(_) if byte == b'[' => State::Within(level + 1, Phase::MayBegin),
-        Phase::InLabel(number) if follows(LABELS, number, byte) => State::Within(
+        Phase::InLabel(number) if follows(LABELS as usize, number, byte) => State::Within(
             level,
             Phase::InLabel(number * 10 + (byte - b'0')),
         ),

@@ -16,13 +16,11 @@ use super::faults::WriteFault;
 use super::nodes::MAX_DOCUMENT;
 use super::nodes::MAX_NODES;
 use super::nodes::Node;
+use forms::LABELS;
 use forms::MAX_ROWS;
 use forms::bytes::digits;
 use forms::bytes::put;
 use forms::bytes::put_number;
-
-// Labels are numbered from 0 to one less than this.
-const LABELS: u8 = 64;
 
 // A node by its text: none, an address, an element alone, an element with more behind it.
 #[derive(Clone, Copy)]

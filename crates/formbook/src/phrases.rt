@@ -1,5 +1,6 @@
 // Rows and refusals in words.
 use forms::Capability;
+use forms::LABELS;
 use forms::Row;
 use relation::AdmissionFault;
 use std::error::AnyError;
@@ -24,7 +25,7 @@ fn print_labels(rt: &LibcRuntime, labels: u64) -> Result<(), AnyError> {
         return Ok(());
     }
     let mut some = false;
-    for k in 0..64u32 {
+    for k in 0..LABELS {
         if (labels >> k) % 2 == 1 {
             let before = if some { ", " } else { "labels " };
             print!(rt, "{before}{k}")?;

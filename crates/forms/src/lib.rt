@@ -13,6 +13,9 @@ pub mod makes;
 // The most rows that a table has.
 pub const MAX_ROWS: usize = 64;
 
+// Labels are numbered from 0 to one less than this; a label set has a bit for each.
+pub const LABELS: u8 = 64;
+
 // What the holder of a channel may do with it: receive, send, or both.
 #[derive(Clone, Copy, PartialEq, Eq, Debug)]
 pub enum Capability {
