@@ -148,7 +148,7 @@ closed x a b before m₁ m₂ after used label end₁ end₂ end i y r room inne
       count = omega (arith, outer′ .count);
       top = omega (arith, outer′ .count);
       nodes = wrote ∙ splice-one m₂ (y .used) (Element label (i .root) (y .root)) here ∙ ap (λ m. spliced m₂ (y .used) (m ∷ [])) same ∙ ap (λ m. spliced m (y .used) (own ∷ [])) both
-        ∙ splice-both before used (na ++ nb) fits₂ (own ∷ []) (y .used) (omega (arith, outer′ .count)) ∙ ap (λ s. spliced before used s) (append-assoc na nb (own ∷ []));
+          ∙ splice-both before used (na ++ nb) fits₂ (own ∷ []) (y .used) (omega (arith, outer′ .count)) ∙ ap (λ s. spliced before used s) (append-assoc na nb (own ∷ []));
     }
 
 built-none : (m : List Node) (used end : ℕ) (i y : Reached) → i .place ≡ end → (y .place ≡ i .place) × (y .used ≡ i .used) × (y .root ≡ 0) → i .used ≡ used → Built void m m used end y
@@ -177,12 +177,12 @@ module _ (t : List ℕ) (p used label : ℕ) (before m₁ m₂ after : List Node
       ⊎-elim
       (λ ev. absurd (closing-no-comma t (i .place) tail (behind-it ∙ ap (λ d. comma-before d ++ (spelled-document d ++ tail)) ev) closing comma))
       (λ ec.
-        let (_, _, c) = front t (i .place) (behind-it ∙ ap (λ s. s ++ (spelled-document b ++ tail)) ec) in
-        let la = length-nodes a used in
-        let fits : used + length (nodes-from used a) ≤ length before = omega arith in
-        let long : length m₁ ≡ length before = ap length (built .nodes) ∙ length-splice before used (nodes-from used a) fits in
-        let outer-built = outer b tail (h .2) ec c closing (omega (arith, built .count)) (omega (arith, built .count)) in
-        closed x a b before m₁ m₂ after used label _ _ _ i y r room built outer-built el wrote reached (omega (arith, built .place, element-length x a b, ap length ec)))
+      let (_, _, c) = front t (i .place) (behind-it ∙ ap (λ s. s ++ (spelled-document b ++ tail)) ec) in
+      let la = length-nodes a used in
+      let fits : used + length (nodes-from used a) ≤ length before = omega arith in
+      let long : length m₁ ≡ length before = ap length (built .nodes) ∙ length-splice before used (nodes-from used a) fits in
+      let outer-built = outer b tail (h .2) ec c closing (omega (arith, built .count)) (omega (arith, built .count)) in
+      closed x a b before m₁ m₂ after used label _ _ _ i y r room built outer-built el wrote reached (omega (arith, built .place, element-length x a b, ap length ec)))
       (comma-or-void b)
 
   pub list-last : (getD t (i .place) 0 ≡ 44 → ⊥) → m₂ ≡ m₁ → (y .place ≡ i .place) × (y .used ≡ i .used) × (y .root ≡ 0) → BuildsList t p before after used r
@@ -195,8 +195,8 @@ module _ (t : List ℕ) (p used label : ℕ) (before m₁ m₂ after : List Node
       let behind-it : drop (i .place) t ≡ rest = ap (λ k. drop k t) (built .place) ∙ after-element t p x a rest bytes in
       ⊎-elim
       (λ ev.
-        let empty : Built b m₁ m₂ (i .used) (i .place) y = subst (λ d. Built d m₁ m₂ (i .used) (i .place) y) (sym ev) (subst (λ m. Built void m₁ m (i .used) (i .place) y) (sym same) (built-none m₁ (i .used) (i .place) i y refl at-end refl)) in
-        closed x a b before m₁ m₂ after used label _ _ _ i y r room built empty el wrote reached (omega (arith, built .place, element-length x a b, ap (λ d. length (comma-before d)) ev, ap (λ d. length (spelled-document d)) ev)))
+      let empty : Built b m₁ m₂ (i .used) (i .place) y = subst (λ d. Built d m₁ m₂ (i .used) (i .place) y) (sym ev) (subst (λ m. Built void m₁ m (i .used) (i .place) y) (sym same) (built-none m₁ (i .used) (i .place) i y refl at-end refl)) in
+      closed x a b before m₁ m₂ after used label _ _ _ i y r room built empty el wrote reached (omega (arith, built .place, element-length x a b, ap (λ d. length (comma-before d)) ev, ap (λ d. length (spelled-document d)) ev)))
       (λ ec. absurd (none (front t (i .place) (behind-it ∙ ap (λ s. s ++ (spelled-document b ++ tail)) ec) .1)))
       (comma-or-void b)
 
@@ -218,11 +218,13 @@ module _ (t : List ℕ) (p label end start : ℕ) (reads : ReadsNumber t p (labe
       let (el, es, c) = opened x (spelled-document a ++ (93 ∷ tail)) h e in
       ⊎-elim
       (λ ev.
-        let c′ : drop start t ≡ 93 ∷ tail = c ∙ ap (λ d. spelled-document d ++ (93 ∷ tail)) ev in
-        let (lt, _, _) = front t start c′ in
-        let la : length (spelled-document a) ≡ 0 = ap (λ d. length (spelled-document d)) ev in
-        (el, subst (λ d. Built d before before used (p + length (decimal x) + length (spelled-document a) + 2) r) (sym ev)
-          (record { place = omega (arith, closes lt); count = omega arith; top = re; nodes = sym (splice-none before used) })))
+      let c′ : drop start t ≡ 93 ∷ tail = c ∙ ap (λ d. spelled-document d ++ (93 ∷ tail)) ev in
+      let (lt, _, _) = front t start c′ in
+      let la : length (spelled-document a) ≡ 0 = ap (λ d. length (spelled-document d)) ev in (
+        el,
+        subst (λ d. Built d before before used (p + length (decimal x) + length (spelled-document a) + 2) r) (sym ev)
+            (record { place = omega (arith, closes lt); count = omega arith; top = re; nodes = sym (splice-none before used) }),
+      ))
       (λ ec. let (b, rest, is, lt) = first-byte a small ec (93 ∷ tail) in let (_, at, _) = front t start (c ∙ is) in absurd (omega arith))
       (comma-or-void a)
 
@@ -233,9 +235,9 @@ module _ (t : List ℕ) (p label end start : ℕ) (reads : ReadsNumber t p (labe
       ⊎-elim
       (λ ev. absurd (filled (front t start (c ∙ ap (λ d. spelled-document d ++ (93 ∷ tail)) ev) .1)))
       (λ ec.
-        let built = inner a (93 ∷ tail) small ec c refl some room in
-        let (lt, _, _) = front t (start + length (spelled-document a)) (behind t start (spelled-document a) c) in
-        (el, record { place = omega (arith, built .place, closes (omega (arith, built .place))); count = ue ∙ built .count; top = re ∙ built .top; nodes = built .nodes }))
+      let built = inner a (93 ∷ tail) small ec c refl some room in
+      let (lt, _, _) = front t (start + length (spelled-document a)) (behind t start (spelled-document a) c) in
+      (el, record { place = omega (arith, built .place, closes (omega (arith, built .place))); count = ue ∙ built .count; top = re ∙ built .top; nodes = built .nodes }))
       (comma-or-void a)
 
 -- THE WHOLE TEXT

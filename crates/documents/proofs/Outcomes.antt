@@ -80,6 +80,7 @@ module _ (nodes : List Node) (root : ℕ) (before : List ℕ) (few : length node
         let (is, e) = wrote d stands (omega arith) in
         let long : n ≡ length text = is ∙ zero-add (length text) in
         let filled : after ≡ text ++ drop n before = e ∙ ap (λ k. text ++ drop k before) (sym is) in
-        let front : take n after ≡ text = ap (take n) filled ∙ take-at text (drop n before) n (sym long) in
-        ((text, writes-text d few sound stands (omega arith), long, filled),
-          (d, stands, λ buffer shallow room′. read-is-spelled buffer (take n after) d .1 (small, front, omega (arith, ap length front), shallow, room′)))
+        let front : take n after ≡ text = ap (take n) filled ∙ take-at text (drop n before) n (sym long) in (
+          (text, writes-text d few sound stands (omega arith), long, filled),
+          (d, stands, λ buffer shallow room′. read-is-spelled buffer (take n after) d .1 (small, front, omega (arith, ap length front), shallow, room′)),
+        )

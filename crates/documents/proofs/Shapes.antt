@@ -71,9 +71,13 @@ module _ (nodes : List Node) (k : ℕ) (sound : Sound nodes) (lt : k < length no
     following-within = omega (arith, parts .2)
 
     pub look-single : getD nodes f Void ≡ Void → Shaped nodes k (Single l i)
-    look-single v = (parts .0, parts .1, λ x h.
-      let (a, b, is, p, q) = of-element (is-node (Element l i f) e) h in
-      (a, is ∙ ap (element l a) (of-void (nth-getD nodes f Void following-within ∙ ap Some v) q), p))
+    look-single v = (
+      parts .0,
+      parts .1,
+      λ x h.
+          let (a, b, is, p, q) = of-element (is-node (Element l i f) e) h in
+          (a, is ∙ ap (element l a) (of-void (nth-getD nodes f Void following-within ∙ ap Some v) q), p),
+    )
 
     followed : ((b : Document) → StandsFor nodes f b → comma-before b ≡ 44 ∷ []) → Shaped nodes k (Chain l i f)
     followed some = (parts .0, parts .1, parts .2, λ x h. let (a, b, is, p, q) = of-element (is-node (Element l i f) e) h in (a, b, is, some b q, p, q))

@@ -83,8 +83,20 @@ fn close(nodes: &mut [Node], label: u8, inside: u16, rest: Reached) -> Reached
     ensures wrote { λ _. ⌜ now (nodes .exit) ≡ set (now (nodes .entry)) (rest .used) (Element label inside (rest .root)) ⌝ }
     ensures reached { λ r. ⌜ (r .place ≡ rest .place) × (r .used ≡ rest .used + 1) × (r .root ≡ rest .used) ⌝ }
 {
-    put(nodes, rest.used, Node::Element { label, inside, following: rest.root });
-    Reached { place: rest.place, used: rest.used + 1, root: rest.used as u16 }
+    put(
+        nodes,
+        rest.used,
+        Node::Element {
+            label,
+            inside,
+            following: rest.root,
+        },
+    );
+    Reached {
+        place: rest.place,
+        used: rest.used + 1,
+        root: rest.used as u16,
+    }
 }
 
 // A list: a reference, or an element, or an element, a comma and a list.
@@ -94,19 +106,36 @@ fn list(text: &[u8], place: usize, nodes: &mut [Node], used: usize) -> Reached
     ensures builds { λ r. ⌜ BuildsList (now (text .entry)) place (now (nodes .entry)) (now (nodes .exit)) used r ⌝ }
 {
     if place >= text.len() {
-        return Reached { place, used, root: 0 };
+        return Reached {
+            place,
+            used,
+            root: 0,
+        };
     }
     if byte_at(text, place) == b'@' {
         let (row, end) = number(text, place + 1);
         put(nodes, used, Node::Reference(row));
-        return Reached { place: end, used: used + 1, root: used as u16 };
+        return Reached {
+            place: end,
+            used: used + 1,
+            root: used as u16,
+        };
     }
     let (label, inside) = item(text, place, nodes, used);
     if byte_at(text, inside.place) == b',' {
         let rest = list(text, inside.place + 1, nodes, inside.used);
         close(nodes, label, inside.root, rest)
     } else {
-        close(nodes, label, inside.root, Reached { place: inside.place, used: inside.used, root: 0 })
+        close(
+            nodes,
+            label,
+            inside.root,
+            Reached {
+                place: inside.place,
+                used: inside.used,
+                root: 0,
+            },
+        )
     }
 }
 
@@ -121,11 +150,25 @@ fn item(text: &[u8], place: usize, nodes: &mut [Node], used: usize) -> (u8, Reac
     let start = skip(text, end);
     if byte_at(text, start) == b']' {
         let shut = skip(text, start);
-        return (label, Reached { place: shut, used, root: 0 });
+        return (
+            label,
+            Reached {
+                place: shut,
+                used,
+                root: 0,
+            },
+        );
     }
     let inside = list(text, start, nodes, used);
     let shut = skip(text, inside.place);
-    (label, Reached { place: shut, used: inside.used, root: inside.root })
+    (
+        label,
+        Reached {
+            place: shut,
+            used: inside.used,
+            root: inside.root,
+        },
+    )
 }
 
 // The nodes of a text that is known to be right and to fit.

@@ -97,9 +97,15 @@ fn advance(level: usize, phase: Phase, byte: u8) -> State
     match phase {
         Phase::MayBegin | Phase::MustBegin => begin(level, byte),
         Phase::InLabel(_) if byte == b'[' => State::Within(level + 1, Phase::MayBegin),
-        Phase::InLabel(number) if follows(LABELS, number, byte) => State::Within(level, Phase::InLabel(number * 10 + (byte - b'0'))),
+        Phase::InLabel(number) if follows(LABELS, number, byte) => State::Within(
+            level,
+            Phase::InLabel(number * 10 + (byte - b'0')),
+        ),
         Phase::AfterAt if digit(byte) => State::Within(level, Phase::InRow(byte - b'0')),
-        Phase::InRow(number) if follows(MAX_ROWS, number, byte) => State::Within(level, Phase::InRow(number * 10 + (byte - b'0'))),
+        Phase::InRow(number) if follows(MAX_ROWS, number, byte) => State::Within(
+            level,
+            Phase::InRow(number * 10 + (byte - b'0')),
+        ),
         Phase::AfterElement if byte == b',' => State::Within(level, Phase::MustBegin),
         _ => State::Stuck,
     }
@@ -113,7 +119,11 @@ fn next(level: usize, phase: Phase, byte: u8) -> State
     if byte != b']' {
         return advance(level, phase, byte);
     }
-    if ends(phase) { close(level) } else { State::Stuck }
+    if ends(phase) {
+        close(level)
+    } else {
+        State::Stuck
+    }
 }
 
 // The text may end here.

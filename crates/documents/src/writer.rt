@@ -40,7 +40,11 @@ fn sound(k: usize, node: Node) -> bool
     match node {
         Node::Void => true,
         Node::Reference(row) => (row as usize) < MAX_ROWS,
-        Node::Element { label, inside, following } => label < LABELS && (inside as usize) < k && (following as usize) < k,
+        Node::Element {
+            label,
+            inside,
+            following,
+        } => label < LABELS && (inside as usize) < k && (following as usize) < k,
     }
 }
 
@@ -64,7 +68,11 @@ fn look(nodes: &[Node], k: u16) -> Shape
     match nodes[k as usize] {
         Node::Void => Shape::Empty,
         Node::Reference(row) => Shape::Address(row),
-        Node::Element { label, inside, following } => match nodes[following as usize] {
+        Node::Element {
+            label,
+            inside,
+            following,
+        } => match nodes[following as usize] {
             Node::Void => Shape::Single(label, inside),
             Node::Reference(_) => Shape::Chain(label, inside, following),
             Node::Element { .. } => Shape::Chain(label, inside, following),

@@ -35,8 +35,22 @@ fn two_elements() -> Result<(), Fail> {
     let mut nodes = [Node::Reference(9); 4];
     check_eq(read_document(b"1[],2[]", &mut nodes), Ok(3))?;
     check_eq(nodes[0], Node::Void)?;
-    check_eq(nodes[1], Node::Element { label: 2, inside: 0, following: 0 })?;
-    check_eq(nodes[2], Node::Element { label: 1, inside: 0, following: 1 })?;
+    check_eq(
+        nodes[1],
+        Node::Element {
+            label: 2,
+            inside: 0,
+            following: 0,
+        },
+    )?;
+    check_eq(
+        nodes[2],
+        Node::Element {
+            label: 1,
+            inside: 0,
+            following: 1,
+        },
+    )?;
     check_eq(nodes[3], Node::Reference(9)).note("the rest of the buffer stays")
 }
 
@@ -53,7 +67,14 @@ fn references_end_their_list() -> Result<(), Fail> {
     let mut nodes = [Node::Void; 4];
     check_eq(read_document(b"7[@63]", &mut nodes), Ok(3))?;
     check_eq(nodes[1], Node::Reference(63))?;
-    check_eq(nodes[2], Node::Element { label: 7, inside: 1, following: 0 })?;
+    check_eq(
+        nodes[2],
+        Node::Element {
+            label: 7,
+            inside: 1,
+            following: 0,
+        },
+    )?;
     check_eq(read(b"@5,1[]"), Err(ReadFault::Wrong { place: 2 }))?;
     check_eq(read(b"@"), Err(ReadFault::Wrong { place: 1 }))?;
     check_eq(read(b"@64"), Err(ReadFault::Wrong { place: 2 }))?;
@@ -80,9 +101,14 @@ fn levels(rt: LibcRuntime) -> Result<(), Fail> {
     let fine = repeated(rt.alloc(), b"1[", 64, shut.as_slice())?;
     check_eq(read(fine.as_slice()), Ok(65))?;
     let deep = repeated(rt.alloc(), b"1[", 65, b"")?;
-    check_eq(read(deep.as_slice()), Err(ReadFault::TooDeep { place: 129 }))?;
+    check_eq(
+        read(deep.as_slice()),
+        Err(ReadFault::TooDeep { place: 129 }),
+    )?;
     let wrong = repeated(rt.alloc(), b"1[", 64, b"x1[")?;
-    check_eq(read(wrong.as_slice()), Err(ReadFault::Wrong { place: 128 })).note("the lower place counts")
+    check_eq(read(wrong.as_slice()), Err(ReadFault::Wrong { place: 128 })).note(
+        "the lower place counts",
+    )
 }
 
 #[test]
@@ -102,10 +128,15 @@ fn nodes(rt: LibcRuntime) -> Result<(), Fail> {
     let over = repeated(rt.alloc(), b"1[],", 4159, b"1[]")?;
     check_eq(read(over.as_slice()), Err(ReadFault::TooManyNodes))?;
     let mut short = [Node::Reference(9); MAX_NODES - 1];
-    check_eq(read_document(full.as_slice(), &mut short), Err(ReadFault::TooManyNodes))?;
+    check_eq(
+        read_document(full.as_slice(), &mut short),
+        Err(ReadFault::TooManyNodes),
+    )?;
     check_eq(short[0], Node::Reference(9)).note("a refusal leaves the buffer")?;
     let mut none: [Node; 0] = [];
-    check_eq(read_document(b"", &mut none), Err(ReadFault::TooManyNodes)).note("even void takes a node")
+    check_eq(read_document(b"", &mut none), Err(ReadFault::TooManyNodes)).note(
+        "even void takes a node",
+    )
 }
 
 #[test]

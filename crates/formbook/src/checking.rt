@@ -30,7 +30,11 @@ fn print_table(rt: &LibcRuntime, table: &RowText, analysis: &Analysis) -> Result
         if let Some(row) = table.row(number as u8) {
             print!(rt, "  row {number}: ")?;
             phrases::print_row(rt, row)?;
-            let inhabited = if analysis.is_inhabited(number as u8) { "inhabited" } else { "not inhabited" };
+            let inhabited = if analysis.is_inhabited(number as u8) {
+                "inhabited"
+            } else {
+                "not inhabited"
+            };
             print!(rt, "; {inhabited}; ")?;
             print_offers(rt, analysis, number as u8, count as u8)?;
             println!(rt)?;

@@ -31,15 +31,29 @@ fn print_source<S: FormSource>(rt: &LibcRuntime, source: &S) -> Result<bool, Any
     }
 }
 
-fn join_tables(rt: &LibcRuntime, first: RowText, second: RowText, turn: bool) -> Result<bool, AnyError> {
+fn join_tables(
+    rt: &LibcRuntime,
+    first: RowText,
+    second: RowText,
+    turn: bool,
+) -> Result<bool, AnyError> {
     let ours = first.count();
     let theirs = second.count();
     if ours + theirs > MAX_ROWS {
-        println!(rt, "the tables cannot be joined: they have {ours} and {theirs} rows, and {MAX_ROWS} is the most together")?;
+        println!(
+            rt,
+            "the tables cannot be joined: they have {ours} and {theirs} rows, and {MAX_ROWS} is the most together"
+        )?;
         return Ok(false);
     }
     if turn {
-        print_source(rt, &Joined { first, second: Turned { source: second } })
+        print_source(
+            rt,
+            &Joined {
+                first,
+                second: Turned { source: second },
+            },
+        )
     } else {
         print_source(rt, &Joined { first, second })
     }

@@ -9,15 +9,33 @@ mod ordering;
 mod phrases;
 
 fn usage(rt: &LibcRuntime) -> Result<(), AnyError> {
-    println!(rt, "formbook: tables of forms, and the orders that fit them")?;
+    println!(
+        rt,
+        "formbook: tables of forms, and the orders that fit them"
+    )?;
     println!(rt)?;
-    println!(rt, "  formbook check TABLE...          says what each row of a table is, or why the table is refused")?;
+    println!(
+        rt,
+        "  formbook check TABLE...          says what each row of a table is, or why the table is refused"
+    )?;
     println!(rt, "  formbook join OURS THEIRS [--turn]")?;
-    println!(rt, "                                   prints two tables side by side as one; --turn swaps in and out in theirs")?;
-    println!(rt, "  formbook order TEXT              prints an order as a tree and as its table of nodes")?;
-    println!(rt, "  formbook batch FILE              runs the commands in a file, one a line")?;
+    println!(
+        rt,
+        "                                   prints two tables side by side as one; --turn swaps in and out in theirs"
+    )?;
+    println!(
+        rt,
+        "  formbook order TEXT              prints an order as a tree and as its table of nodes"
+    )?;
+    println!(
+        rt,
+        "  formbook batch FILE              runs the commands in a file, one a line"
+    )?;
     println!(rt)?;
-    println!(rt, "A TABLE is a file of row text (docs/FORMATS.md has the formats, docs/REFUSALS.md the refusals).")?;
+    println!(
+        rt,
+        "A TABLE is a file of row text (docs/FORMATS.md has the formats, docs/REFUSALS.md the refusals)."
+    )?;
     Ok(())
 }
 
@@ -68,5 +86,9 @@ fn main(rt: LibcRuntime) -> Result<(), AnyError> {
     } else {
         run(&rt, all)?
     };
-    if well { Ok(()) } else { Err("not all went well".into()) }
+    if well {
+        Ok(())
+    } else {
+        Err("not all went well".into())
+    }
 }

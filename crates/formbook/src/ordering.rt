@@ -13,7 +13,12 @@ fn print_spaces(rt: &LibcRuntime, count: usize) -> Result<(), AnyError> {
 }
 
 // The document of node k, a line for each element and reference, what is inside an element two deeper.
-pub fn print_tree(rt: &LibcRuntime, nodes: &[Node], k: usize, indent: usize) -> Result<(), AnyError> {
+pub fn print_tree(
+    rt: &LibcRuntime,
+    nodes: &[Node],
+    k: usize,
+    indent: usize,
+) -> Result<(), AnyError> {
     if k >= nodes.len() {
         return Ok(());
     }
@@ -24,7 +29,11 @@ pub fn print_tree(rt: &LibcRuntime, nodes: &[Node], k: usize, indent: usize) -> 
             println!(rt, "the address of row {row}")?;
             Ok(())
         }
-        Node::Element { label, inside, following } => {
+        Node::Element {
+            label,
+            inside,
+            following,
+        } => {
             print_spaces(rt, indent)?;
             println!(rt, "element {label}")?;
             let (first, second) = (inside as usize, following as usize);
@@ -44,7 +53,14 @@ fn print_nodes(rt: &LibcRuntime, nodes: &[Node]) -> Result<(), AnyError> {
         match node {
             Node::Void => println!(rt, "  node {k}: void")?,
             Node::Reference(row) => println!(rt, "  node {k}: the address of row {row}")?,
-            Node::Element { label, inside, following } => println!(rt, "  node {k}: element {label}, inside node {inside}, then node {following}")?,
+            Node::Element {
+                label,
+                inside,
+                following,
+            } => println!(
+                rt,
+                "  node {k}: element {label}, inside node {inside}, then node {following}"
+            )?,
         }
     }
     Ok(())
@@ -60,20 +76,35 @@ fn print_caret(rt: &LibcRuntime, text: &str, place: usize) -> Result<(), AnyErro
 fn print_fault(rt: &LibcRuntime, text: &str, fault: ReadFault) -> Result<(), AnyError> {
     let number = fault.number();
     match fault {
-        ReadFault::TooLong => println!(rt, "this is no order ({number}): it has more than 32,768 bytes")?,
+        ReadFault::TooLong => println!(
+            rt,
+            "this is no order ({number}): it has more than 32,768 bytes"
+        )?,
         ReadFault::Wrong { place } if place < text.len() => {
-            println!(rt, "this is no order ({number}): at place {place} no order goes on so")?;
+            println!(
+                rt,
+                "this is no order ({number}): at place {place} no order goes on so"
+            )?;
             print_caret(rt, text, place)?;
         }
         ReadFault::Wrong { place } => {
-            println!(rt, "this is no order ({number}): it ends too early, at place {place}")?;
+            println!(
+                rt,
+                "this is no order ({number}): it ends too early, at place {place}"
+            )?;
             print_caret(rt, text, place)?;
         }
         ReadFault::TooDeep { place } => {
-            println!(rt, "this order is too deep ({number}): the bracket at place {place} opens a 65th level")?;
+            println!(
+                rt,
+                "this order is too deep ({number}): the bracket at place {place} opens a 65th level"
+            )?;
             print_caret(rt, text, place)?;
         }
-        ReadFault::TooManyNodes => println!(rt, "this order is too large ({number}): it takes more than {MAX_NODES} nodes")?,
+        ReadFault::TooManyNodes => println!(
+            rt,
+            "this order is too large ({number}): it takes more than {MAX_NODES} nodes"
+        )?,
     }
     Ok(())
 }

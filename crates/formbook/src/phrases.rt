@@ -40,9 +40,16 @@ pub fn print_row(rt: &LibcRuntime, row: Row) -> Result<(), AnyError> {
         Row::Nothing => print!(rt, "nothing: no document")?,
         Row::Channel(capability, payload) => {
             let word = capability_word(capability);
-            print!(rt, "channel: an address {word}, for what fits row {payload}")?;
+            print!(
+                rt,
+                "channel: an address {word}, for what fits row {payload}"
+            )?;
         }
-        Row::Element { labels, inside, following } => {
+        Row::Element {
+            labels,
+            inside,
+            following,
+        } => {
             print!(rt, "element: ")?;
             print_labels(rt, labels)?;
             print!(rt, "; inside row {inside}, then row {following}")?;
@@ -55,21 +62,33 @@ pub fn print_row(rt: &LibcRuntime, row: Row) -> Result<(), AnyError> {
 fn field_word(field: usize) -> &'static str {
     match field {
         0 => "field 0, the kind: V, N, C, E or U is asked for",
-        1 => "field 1: i, o or b for C, 16 hexadecimal digits for E, else nothing is asked for, and then a comma",
-        2 => "field 2: a row number from 0 to 63 for C, E and U, else nothing is asked for, and then a comma",
-        _ => "field 3: a row number from 0 to 63 for E and U, else nothing is asked for, and then the end of the line",
+        1 =>
+            "field 1: i, o or b for C, 16 hexadecimal digits for E, else nothing is asked for, and then a comma",
+        2 =>
+            "field 2: a row number from 0 to 63 for C, E and U, else nothing is asked for, and then a comma",
+        _ =>
+            "field 3: a row number from 0 to 63 for E and U, else nothing is asked for, and then the end of the line",
     }
 }
 
 pub fn print_text_fault(rt: &LibcRuntime, fault: TextFault) -> Result<(), AnyError> {
     let number = fault.number();
     match fault {
-        TextFault::TooLong => println!(rt, "the text is refused ({number}): it has more than 1,600 bytes")?,
+        TextFault::TooLong => println!(
+            rt,
+            "the text is refused ({number}): it has more than 1,600 bytes"
+        )?,
         TextFault::WrongLine { line, field } => {
             let word = field_word(field);
-            println!(rt, "the text is refused ({number}): line {line} is wrong at {word} (lines and fields are counted from 0)")?;
+            println!(
+                rt,
+                "the text is refused ({number}): line {line} is wrong at {word} (lines and fields are counted from 0)"
+            )?;
         }
-        TextFault::TooManyLines => println!(rt, "the text is refused ({number}): it has more than 64 lines")?,
+        TextFault::TooManyLines => println!(
+            rt,
+            "the text is refused ({number}): it has more than 64 lines"
+        )?,
     }
     Ok(())
 }
@@ -77,8 +96,14 @@ pub fn print_text_fault(rt: &LibcRuntime, fault: TextFault) -> Result<(), AnyErr
 pub fn print_rows_fault(rt: &LibcRuntime, fault: RowsFault) -> Result<(), AnyError> {
     let number = fault.number();
     match fault {
-        RowsFault::NumberOver { row } => println!(rt, "it cannot be written ({number}): row {row} has a number above 63, since it pointed past its own table")?,
-        RowsFault::NoRoom => println!(rt, "it cannot be written ({number}): the text is longer than the buffer")?,
+        RowsFault::NumberOver { row } => println!(
+            rt,
+            "it cannot be written ({number}): row {row} has a number above 63, since it pointed past its own table"
+        )?,
+        RowsFault::NoRoom => println!(
+            rt,
+            "it cannot be written ({number}): the text is longer than the buffer"
+        )?,
     }
     Ok(())
 }
@@ -86,9 +111,18 @@ pub fn print_rows_fault(rt: &LibcRuntime, fault: RowsFault) -> Result<(), AnyErr
 pub fn print_admission_fault(rt: &LibcRuntime, fault: AdmissionFault) -> Result<(), AnyError> {
     let number = fault.number();
     match fault {
-        AdmissionFault::NoRows => println!(rt, "the table is not admitted ({number}): it has no rows")?,
-        AdmissionFault::NumberOutside { row } => println!(rt, "the table is not admitted ({number}): row {row} has a number that is not that of a row")?,
-        AdmissionFault::LabelTwice { row } => println!(rt, "the table is not admitted ({number}): row {row} offers two different inhabited element rows with a common label")?,
+        AdmissionFault::NoRows => println!(
+            rt,
+            "the table is not admitted ({number}): it has no rows"
+        )?,
+        AdmissionFault::NumberOutside { row } => println!(
+            rt,
+            "the table is not admitted ({number}): row {row} has a number that is not that of a row"
+        )?,
+        AdmissionFault::LabelTwice { row } => println!(
+            rt,
+            "the table is not admitted ({number}): row {row} offers two different inhabited element rows with a common label"
+        )?,
     }
     Ok(())
 }

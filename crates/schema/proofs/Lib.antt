@@ -7,3 +7,4 @@ pub mod Inclusion
 pub mod Published
 pub mod Leaning
 pub mod Undetermined
+pub mod Worked

@@ -20,7 +20,7 @@ returns-then-root-nodes c = record {
 pub returns-in-Some-measure : need.returns-in-Some-measure
 returns-in-Some-measure c =
     let (written, back) = write-done (c .args .nodes .now) (c .args .root) (c .args .buffer .now) (c .if-nodes-gt-MAX-NODES .left) (c .in-rest .ensures tt) (c .if-root-nodes .left) (c .min .result) (c .min .ensures)
-        (c .in-Some-measure .field-0) (c .write .result) (c .write .last .out) (c .in-Some-measure .ensures tt) (c .write .ensures) in
+    (c .in-Some-measure .field-0) (c .write .result) (c .write .last .out) (c .in-Some-measure .ensures tt) (c .write .ensures) in
     record { written = written; back = back; one = writing-documents-is-one }
 
 pub returns-in-None : need.returns-in-None
