@@ -1,0 +1,10 @@
+pub mod Findings
+pub mod Narrowing
+pub mod Offered
+pub mod Kept
+pub mod Order
+pub mod Inclusion
+pub mod Published
+pub mod Leaning
+pub mod Undetermined
+pub mod Worked

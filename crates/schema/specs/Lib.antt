@@ -1,0 +1,4 @@
+pub mod Rules
+pub mod Theorems
+pub mod Published
+pub mod Worked
