@@ -1,0 +1,4 @@
+pub mod Gathering
+pub mod Walks
+pub mod Labelling
+pub mod Preparing
