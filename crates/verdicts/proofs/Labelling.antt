@@ -17,7 +17,7 @@ use Rattle.sets.proofs.Lowest.{bit-zero}
 use Rattle.forms.specs.Limits.{max-rows}
 use Rattle.forms.specs.Rows.{belongs}
 use Rattle.forms.specs.declared.Row.{Row}
-use Rattle.verdicts.specs.Sorting.{labels-in, Labelling}
+use Rattle.verdicts.specs.Ready.{labels-in, Labelling}
 use Rattle.verdicts.proofs.Walks.{Found, Missing, walk-split, walk-end}
 
 module _ (rows : List Row) (f : ℕ → Bool) where

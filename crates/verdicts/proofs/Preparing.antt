@@ -18,55 +18,19 @@ use Rattle.forms.specs.Limits.{max-rows}
 use Rattle.forms.specs.Rows.{belongs}
 use Rattle.forms.specs.declared.Row.{Row}
 use Rattle.forms.specs.declared.Row.the-variants.{Void, Nothing, Channel, Element, Union}
-use Rattle.relation.specs.Admission.{Admitted, Gives}
+use Rattle.relation.specs.Admission.{Admitted}
 use Rattle.relation.specs.Cells.{cell}
 use Rattle.relation.specs.Judged.{Analyzed}
 use Rattle.relation.specs.declared.analysis.Analysis.{Analysis}
 use Rattle.schema.proofs.Findings.{never}
 use Rattle.schema.proofs.Offered.{offered-below, offering-below}
-use Rattle.verdicts.specs.Kinds.{kind-is, void-row, channel-row, element-row}
-use Rattle.verdicts.specs.Ready.{in-row, IsVoid, IsChannel, IsElement, Sorted, Ready}
-use Rattle.verdicts.specs.Sorting.{picked, labels-in, Labelling}
+use Rattle.verdicts.specs.Kinds.{kind-is}
+use Rattle.verdicts.specs.Sorts.{void-tells, channel-tells, element-tells}
+use Rattle.verdicts.specs.Ready.{in-row, IsVoid, IsChannel, IsElement, Sorted, Ready, labels-in, Labelling}
+use Rattle.verdicts.specs.Sorting.{picked}
 use Rattle.verdicts.specs.declared.kinds.Kind.{Kind}
 use Rattle.verdicts.specs.declared.kinds.Kind.the-variants.{OfVoid, OfChannel, OfElement}
 use Rattle.verdicts.proofs.Walks.{in-row-below}
-
-module _ (rows : List Row) (o : ℕ) where
-  abbrev Tells : (Option Row → Bool) → Type 0 → Type 0
-  Tells test Sort = Decides (test (nth rows o)) Sort
-
-  void-tells : Tells void-row (IsVoid rows o)
-  void-tells = (λ h. go (nth rows o) refl h, λ e. ap void-row e)
-    where
-      go : (r : Option Row) → nth rows o ≡ r → void-row r ≡ true → nth rows o ≡ Some Void
-      go None e h = absurd (both-ways false refl h)
-      go (Some Void) e h = e
-      go (Some Nothing) e h = absurd (both-ways false refl h)
-      go (Some (Channel k s)) e h = absurd (both-ways false refl h)
-      go (Some (Element l i n)) e h = absurd (both-ways false refl h)
-      go (Some (Union l r)) e h = absurd (both-ways false refl h)
-
-  channel-tells : Tells channel-row (IsChannel rows o)
-  channel-tells = (λ h. go (nth rows o) refl h, λ (k, s, e). ap channel-row e)
-    where
-      go : (r : Option Row) → nth rows o ≡ r → channel-row r ≡ true → IsChannel rows o
-      go None e h = absurd (both-ways false refl h)
-      go (Some Void) e h = absurd (both-ways false refl h)
-      go (Some Nothing) e h = absurd (both-ways false refl h)
-      go (Some (Channel k s)) e h = (k, s, e)
-      go (Some (Element l i n)) e h = absurd (both-ways false refl h)
-      go (Some (Union l r)) e h = absurd (both-ways false refl h)
-
-  element-tells : Tells element-row (IsElement rows o)
-  element-tells = (λ h. go (nth rows o) refl h, λ (l, i, n, e). ap element-row e)
-    where
-      go : (r : Option Row) → nth rows o ≡ r → element-row r ≡ true → IsElement rows o
-      go None e h = absurd (both-ways false refl h)
-      go (Some Void) e h = absurd (both-ways false refl h)
-      go (Some Nothing) e h = absurd (both-ways false refl h)
-      go (Some (Channel k s)) e h = absurd (both-ways false refl h)
-      go (Some (Element l i n)) e h = (l, i, n, e)
-      go (Some (Union l r)) e h = absurd (both-ways false refl h)
 
 module _ (rows : List Row) (few : length rows ≤ max-rows) (a : Analysis) (analyzed : Analyzed rows a) where
   abbrev Picks : Kind → List ℕ → Type 0
@@ -97,24 +61,13 @@ module _ (rows : List Row) (few : length rows ≤ max-rows) (a : Analysis) (anal
       narrow : o < max-rows → p * max-rows + o < max-rows * max-rows → p < max-rows
       narrow low h = omega arith
 
-  given : (elements : List ℕ) → Sorted rows (IsElement rows) elements → (p v : ℕ) → Labelling rows (in-row elements p) v → (x : ℕ) → Decides (belongs x v) ((e : ℕ) × Gives rows p e x)
-  given elements sorts p v labelling x = (
-    λ b.
-        let (e, m, h) = labelling x .0 b in
-        let (offers, inh, of) = sorts p e .0 m in
-        let (l, i, n, is) = of in
-        (e, record { labels = l; inside = i; following = n; offered = offers; is = is; inhabited = inh; has = subst (λ y. belongs x y ≡ true) (ap labels-in is) h }),
-    λ (e, g). labelling x .1 (e, sorts p e .1 (g .offered, g .inhabited, (g .labels, g .inside, g .following, g .is)), subst (λ y. belongs x y ≡ true) (sym (ap labels-in (g .is))) (g .has)),
-  )
-
   pub made-ready : Admitted rows → (voids channels elements labels : List ℕ) → Picks OfVoid voids → Picks OfChannel channels → Picks OfElement elements →
       ((p : ℕ) → p < max-rows → Labelling rows (in-row elements p) (getD labels p 0)) → Ready rows voids channels elements labels
   made-ready admitted voids channels elements labels v c e l =
-      let parts = sorted OfElement (IsElement rows) (element-tells rows) elements e in
       record {
         admitted = admitted;
         empties = sorted OfVoid (IsVoid rows) (void-tells rows) voids v;
         addresses = sorted OfChannel (IsChannel rows) (channel-tells rows) channels c;
-        parts = parts;
-        given = λ p x h. given elements parts p (getD labels p 0) (l p h) x;
+        parts = sorted OfElement (IsElement rows) (element-tells rows) elements e;
+        given = l;
       }

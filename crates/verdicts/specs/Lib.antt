@@ -1,4 +1,6 @@
 pub mod Pairs
 pub mod Ready
 pub mod Kinds
+pub mod Sorts
 pub mod Sorting
+pub mod Facts

@@ -1,8 +1,7 @@
 use native.Mathlib.Omega.{arith}
 use Prim.Native.Nat.{ℕ}
 use Rattle.forms.specs.Buffers.{rows-of}
-use Rattle.verdicts.specs.Ready.{in-row}
-use Rattle.verdicts.specs.Sorting.{Labelling}
+use Rattle.verdicts.specs.Ready.{in-row, Labelling}
 use Rattle.verdicts.proofs.Labelling.{listed-none, listed-more}
 use Rattle.verdicts.proofs.prepared.sorting.gather_labels.Needs as need
 

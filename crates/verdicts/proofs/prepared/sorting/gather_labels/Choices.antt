@@ -1,6 +1,5 @@
 use Rattle.forms.specs.Buffers.{rows-of}
-use Rattle.verdicts.specs.Ready.{in-row}
-use Rattle.verdicts.specs.Sorting.{Labelling}
+use Rattle.verdicts.specs.Ready.{in-row, Labelling}
 use Rattle.verdicts.proofs.Labelling.{Listed}
 use Rattle.verdicts.proofs.prepared.sorting.gather_labels.Given as given
 

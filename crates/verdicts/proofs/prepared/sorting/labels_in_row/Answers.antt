@@ -1,8 +1,7 @@
 use mathlib.Core.Path.{ap, _∙_}
 use native.Mathlib.Omega.{arith}
 use Rattle.forms.specs.Buffers.{rows-of}
-use Rattle.verdicts.specs.Ready.{in-row}
-use Rattle.verdicts.specs.Sorting.{labels-in}
+use Rattle.verdicts.specs.Ready.{in-row, labels-in}
 use Rattle.verdicts.proofs.Walks.{in-row-below}
 use Rattle.verdicts.proofs.Labelling.{labels-none, labels-more, labels-all}
 use Rattle.verdicts.proofs.prepared.sorting.labels_in_row.Needs as need
