@@ -2,3 +2,5 @@ pub mod Gathering
 pub mod Walks
 pub mod Labelling
 pub mod Preparing
+pub mod Tests
+pub mod Keeping

@@ -4,3 +4,4 @@ pub mod Kinds
 pub mod Sorts
 pub mod Sorting
 pub mod Facts
+pub mod Tests

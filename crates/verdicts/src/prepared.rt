@@ -17,3 +17,4 @@ pub struct Prepared {
 }
 
 pub mod sorting;
+pub mod keeping;
