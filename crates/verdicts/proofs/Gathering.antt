@@ -1,5 +1,5 @@
 -- Sets of rows, filled place by place. Assumes nothing.
-use mathlib.Core.Path.{_≡_, sym, ap, subst, _∙_}
+use mathlib.Core.Path.{_≡_, refl, sym, ap, subst, _∙_}
 use mathlib.Core.List.{List}
 use mathlib.Core.Logic.{⊎-elim, _≢_}
 use mathlib.Core.Bool.{Bool, true, false, _&&_, _||_}
@@ -51,3 +51,11 @@ module _ (pick : ℕ → Bool) where
 
   pub gathered-past : (cells : List ℕ) (i : ℕ) → Gathered cells i → pick i ≡ false → Gathered cells (i + 1)
   gathered-past cells i g off = record { room = g .room; has = λ j. g .has j ∙ past-more j i off }
+
+-- where every place is picked, all places before i are there
+pub gathered-whole : (cells : List ℕ) (i : ℕ) → Gathered (λ _. true) cells i → (j : ℕ) → member cells j ≡ ltb j i
+gathered-whole cells i g j = g .has j ∙ whole (ltb j i)
+  where
+    whole : (b : Bool) → (b && true) ≡ b
+    whole true = refl
+    whole false = refl

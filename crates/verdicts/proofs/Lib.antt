@@ -4,3 +4,5 @@ pub mod Labelling
 pub mod Preparing
 pub mod Tests
 pub mod Keeping
+pub mod Deciding
+pub mod Verdicts

@@ -5,3 +5,4 @@ pub mod Sorts
 pub mod Sorting
 pub mod Facts
 pub mod Tests
+pub mod Asking

@@ -18,3 +18,4 @@ pub struct Prepared {
 
 pub mod sorting;
 pub mod keeping;
+pub mod deciding;
