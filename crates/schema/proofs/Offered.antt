@@ -1,9 +1,9 @@
 -- What a row offers, and whether some document fits it, can be decided.
 use mathlib.Core.Path.{_≡_, refl, subst}
-use mathlib.Core.List.{List}
+use mathlib.Core.List.{List, [], _∷_}
 use mathlib.Core.Bool.{Bool, true, false, not, _&&_, _||_}
 use mathlib.Core.Logic.{_⊎_, inl, inr, ⊎-elim}
-use Prim.Native.Nat.{ℕ, _/_, _%_, _^_, _<_}
+use Prim.Native.Nat.{ℕ, zero, suc, _/_, _%_, _^_, _<_}
 use native.Mathlib.Omega.{arith}
 use native.Mathlib.Nat.{pow-le-pow-right, div-eq-of-lt}
 use lib.ListN.{length}
@@ -15,6 +15,7 @@ use Rattle.forms.specs.Limits.{label-count}
 use Rattle.std.proofs.shelf.Tests.{both-ways, and-parts, and-from, and-cases, or-cases, or-parts, or-left, or-right, cases-bool, not-false, not-true, lt-ltb, ltb-true, eqb-true, eqb-false, cases-lt}
 use Rattle.forms.specs.declared.Row.{Row}
 use Rattle.forms.specs.declared.Row.the-variants.{Void, Nothing, Channel, Element, Union}
+use Rattle.std.specs.shelf.Lists.{All}
 use Rattle.std.specs.shelf.Maps.{nth}
 use Rattle.forms.specs.Rows.{belongs}
 use Rattle.forms.specs.Schema.{NoUnion, Offers, Inhabited}
@@ -26,6 +27,12 @@ use Rattle.schema.proofs.Narrowing.{Contained, decided}
 
 pub at-below : (rows : List Row) (p : ℕ) {row : Row} → nth rows p ≡ Some row → p < length rows
 at-below rows p e = ⊎-elim (λ h. h) (λ past. let none = nth-past rows p past in never (cc)) (cases-lt p (length rows))
+
+-- what holds of each row holds of the row with any number
+pub nth-all : (P : Row → Type 0) (rows : List Row) → All P rows → (p : ℕ) {row : Row} → nth rows p ≡ Some row → P row
+nth-all P [] all p e = never (cc)
+nth-all P (r ∷ rs) all zero {row} e = let s : r ≡ row = cc in subst P s (all .0)
+nth-all P (r ∷ rs) all (suc p) e = nth-all P rs (all .1) p e
 
 -- a label of a set below 2 ^ label-count is below 64
 pub label-below : (x l : ℕ) → l < 2 ^ label-count → belongs x l ≡ true → x < label-count

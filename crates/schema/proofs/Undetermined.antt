@@ -1,9 +1,8 @@
 -- Two elements with one label and different insides: their union is not below itself.
 use mathlib.Core.Path.{_≡_, refl, subst}
 use mathlib.Core.List.{List, [], _∷_}
-use Prim.Native.Nat.{ℕ, zero, suc}
+use Prim.Native.Nat.{ℕ}
 use native.Mathlib.Omega.{arith}
-use Rattle.std.specs.shelf.Lists.{All}
 use Rattle.std.specs.declared.option.Option.the-variants.{Some}
 use Rattle.forms.specs.Rows.{NumbersBelow, Labelled}
 use Rattle.forms.specs.declared.Row.{Row}
@@ -15,13 +14,8 @@ use Rattle.forms.specs.Schema.Offers.{itself, left, right}
 use Rattle.forms.specs.Schema.Inhabited.{of-void, of-channel, of-element}
 use Rattle.schema.specs.Theorems.{Reflexive-needs-determined}
 use Rattle.schema.proofs.Findings.{never}
+use Rattle.schema.proofs.Offered.{nth-all}
 use Rattle.schema.proofs.Inclusion.{channel-alone}
-
--- what holds of each row holds of the row with any number
-pub nth-all : (P : Row → Type 0) (rows : List Row) → All P rows → (p : ℕ) {row : Row} → nth rows p ≡ Some row → P row
-nth-all P [] all p e = never (cc)
-nth-all P (r ∷ rs) all zero {row} e = let s : r ≡ row = cc in subst P s (all .0)
-nth-all P (r ∷ rs) all (suc p) e = nth-all P rs (all .1) p e
 
 abbrev table : List Row
 table = Void ∷ Channel In 0 ∷ Element 1 0 0 ∷ Element 1 1 0 ∷ Union 2 3 ∷ []
