@@ -4,6 +4,7 @@ use std::error::AnyError;
 use std::fs;
 
 mod checking;
+mod deciding;
 mod joining;
 mod ordering;
 mod phrases;
@@ -23,6 +24,7 @@ fn usage(rt: &LibcRuntime) -> Result<(), AnyError> {
         rt,
         "                                   prints two tables side by side as one; --turn swaps in and out in theirs"
     )?;
+    println!(rt, "  formbook verdicts TABLE...       prints for each two rows whether all orders of the first fit the second")?;
     println!(
         rt,
         "  formbook order TEXT              prints an order as a tree and as its table of nodes"
@@ -49,6 +51,7 @@ fn run(rt: &LibcRuntime, words: &[String]) -> Result<bool, AnyError> {
     match command.as_str() {
         "check" if rest.len() > 0 => checking::check(rt, rest),
         "join" if rest.len() == 2 || rest.len() == 3 => joining::join(rt, rest),
+        "verdicts" if rest.len() > 0 => deciding::verdicts(rt, rest),
         "order" if rest.len() < 2 => ordering::order(rt, rest),
         _ => {
             usage(rt)?;
