@@ -44,7 +44,10 @@ fn verdicts_of(rt: &LibcRuntime, path: &str) -> Result<bool, AnyError> {
     };
     match Prepared::of(&table) {
         Ok(prepared) => {
-            println!(rt, "{path}: Y where every order that fits the row at the left fits the row at the top")?;
+            println!(
+                rt,
+                "{path}: Y where every order that fits the row at the left fits the row at the top"
+            )?;
             print_rows(rt, &table)?;
             print_square(rt, &prepared.verdicts(), prepared.count())?;
             Ok(true)

@@ -24,7 +24,10 @@ fn usage(rt: &LibcRuntime) -> Result<(), AnyError> {
         rt,
         "                                   prints two tables side by side as one; --turn swaps in and out in theirs"
     )?;
-    println!(rt, "  formbook verdicts TABLE...       prints for each two rows whether all orders of the first fit the second")?;
+    println!(
+        rt,
+        "  formbook verdicts TABLE...       prints for each two rows whether all orders of the first fit the second"
+    )?;
     println!(
         rt,
         "  formbook order TEXT              prints an order as a tree and as its table of nodes"

@@ -109,7 +109,10 @@ pub(crate) fn print_rows_fault(rt: &LibcRuntime, fault: RowsFault) -> Result<(),
     Ok(())
 }
 
-pub(crate) fn print_admission_fault(rt: &LibcRuntime, fault: AdmissionFault) -> Result<(), AnyError> {
+pub(crate) fn print_admission_fault(
+    rt: &LibcRuntime,
+    fault: AdmissionFault,
+) -> Result<(), AnyError> {
     let number = fault.number();
     match fault {
         AdmissionFault::NoRows => println!(

@@ -8,11 +8,15 @@ use forms::FormSource;
 use relation::admission::admit;
 use std::env;
 use std::error::AnyError;
+use std::fs;
 use std::time::Instant;
 use texts::RowText;
 use texts::reading::TextSource;
+use verdicts::prepared::Prepared;
 
 const TIMES: usize = 2000;
+
+const FEW: usize = 20;
 
 // A part so many times over, and then an end.
 fn repeated(rt: &LibcRuntime, part: &str, times: usize, end: &str) -> Result<String, AnyError> {
@@ -54,6 +58,32 @@ fn rows(rt: &LibcRuntime) -> Result<(), AnyError> {
     }
     chain.push_str("V,,,\n")?;
     measure_rows(rt, "63 unions in a chain", chain.as_str())
+}
+
+// All verdicts of the table in a file.
+fn verdicts(rt: &LibcRuntime, path: &str) -> Result<(), AnyError> {
+    let bytes = fs::read(rt, path)?;
+    let table = RowText::new(bytes.as_slice());
+    match Prepared::of(&table) {
+        Ok(prepared) => {
+            let start = Instant::now(rt)?;
+            let mut yes = 0u32;
+            for _ in 0..FEW {
+                for word in prepared.verdicts() {
+                    yes = yes.wrapping_add(word.count_ones());
+                }
+            }
+            let each = start.elapsed(rt)?.as_nanos() / FEW as u128 / 1000;
+            let count = prepared.count();
+            let pairs = yes / FEW as u32;
+            println!(
+                rt,
+                "{path}: {count} rows, {pairs} pairs hold, all verdicts in {each} microseconds"
+            )?;
+        }
+        Err(_) => println!(rt, "{path}: not admitted")?,
+    }
+    Ok(())
 }
 
 fn megabytes(bytes: usize, nanos: u128) -> u128 {
@@ -153,10 +183,17 @@ fn stack(rt: &LibcRuntime, word: &str) -> Result<(), AnyError> {
 }
 
 fn main(rt: LibcRuntime) -> Result<(), AnyError> {
-    let word = match env::args(&rt)?.skip(1).next() {
+    let mut words = env::args(&rt)?.skip(1);
+    let word = match words.next() {
         Some(word) => word,
         None => String::new(rt.alloc()),
     };
+    if word.as_str() == "verdicts" {
+        for path in words {
+            verdicts(&rt, path.as_str())?;
+        }
+        return Ok(());
+    }
     match word.as_str() {
         "rows" => rows(&rt),
         "documents" => documents(&rt),
@@ -164,7 +201,7 @@ fn main(rt: LibcRuntime) -> Result<(), AnyError> {
         _ => {
             println!(
                 rt,
-                "measure rows | documents | stack-read | stack-row | stack-deep"
+                "measure rows | documents | verdicts TABLE... | stack-read | stack-row | stack-deep"
             )?;
             Ok(())
         }

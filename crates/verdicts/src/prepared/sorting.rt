@@ -43,7 +43,13 @@ fn gather(table: &RowBuffer, analysis: &Analysis, kind: Kind) -> [u64; CELL_WORD
 {
     let mut cells = [0; CELL_WORDS];
     for k in 0..MAX_ROWS * MAX_ROWS {
-        if picks(table, analysis, kind, (k / MAX_ROWS) as u8, (k % MAX_ROWS) as u8) {
+        if picks(
+            table,
+            analysis,
+            kind,
+            (k / MAX_ROWS) as u8,
+            (k % MAX_ROWS) as u8,
+        ) {
             sets::put(&mut cells, k);
         }
     }

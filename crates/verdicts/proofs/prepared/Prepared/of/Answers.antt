@@ -11,7 +11,9 @@ ghost-result g c =
     let table = c .of-table .result in
     let a = c .in-Continue-analysis .analysis in
     let (admitted, analyzed) = c .in-Continue-analysis .ensures tt .judged in
-    let same = sym (c .of-table .ensures) in
-    (∣ made-ready (rows-of table) (buffer-laws table .few) a (subst (λ rs. Analyzed rs a) same analyzed) (subst Admitted same admitted)
-    (c .gather-voids .result) (c .gather-channels .result) (c .gather-elements .result) (c .gather-labels-labels .result)
-    (c .gather-voids .ensures) (c .gather-channels .ensures) (c .gather-elements .ensures) (c .gather-labels-labels .ensures) ∣₁, tt)
+    let same = sym (c .of-table .ensures) in (
+      ∣ made-ready (rows-of table) (buffer-laws table .few) a (subst (λ rs. Analyzed rs a) same analyzed) (subst Admitted same admitted)
+          (c .gather-voids .result) (c .gather-channels .result) (c .gather-elements .result) (c .gather-labels-labels .result)
+          (c .gather-voids .ensures) (c .gather-channels .ensures) (c .gather-elements .ensures) (c .gather-labels-labels .ensures) ∣₁,
+      tt,
+    )
