@@ -6,3 +6,5 @@ pub mod Tests
 pub mod Keeping
 pub mod Deciding
 pub mod Verdicts
+pub mod Pending
+pub mod Naming

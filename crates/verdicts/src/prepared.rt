@@ -19,3 +19,4 @@ pub struct Prepared {
 pub mod sorting;
 pub mod keeping;
 pub mod deciding;
+pub mod leaning;

@@ -22,7 +22,7 @@ use relation::admission::meets;
 use sets;
 
 // Whether two label sets have a label in common.
-fn share(a: u64, b: u64) -> bool
+pub(crate) fn share(a: u64, b: u64) -> bool
     ensures { λ r. ⌜ r ≡ meeting a b ⌝ }
 {
     meets(a, b)
