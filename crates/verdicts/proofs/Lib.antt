@@ -8,3 +8,4 @@ pub mod Deciding
 pub mod Verdicts
 pub mod Pending
 pub mod Naming
+pub mod Leaning

@@ -1,6 +1,7 @@
 // What a pair of rows leans on: itself, the pairs that the rules name for it, and what those lean on.
 ghost use mathlib.Core.Path.{_≡_};
 ghost use mathlib.Core.Bool.{true, false};
+ghost use mathlib.Core.Logic.{_⊎_};
 ghost use Prim.Native.Nat.{ℕ, _*_, _<_, _≤_};
 ghost use lib.ListN.{length};
 ghost use Rattle.std.specs.Orderings.{Decides};
@@ -150,5 +151,35 @@ impl Prepared {
     {
         self.name_sets(&self.channels, done, pending, pair);
         self.name_sets(&self.elements, done, pending, pair);
+    }
+
+    // The pairs that a pair of rows leans on; none, if it is no pair of rows.
+    pub fn leaned(&self, pair: (u8, u8)) -> [u64; PAIR_WORDS]
+        ensures leans { λ r. ⌜ (pair .0 < length (rows-of (now (self .entry) .table)) → pair .1 < length (rows-of (now (self .entry) .table)) → (a b : ℕ) → Decides (related (length (rows-of (now (self .entry) .table))) r a b) (Leans (rows-of (now (self .entry) .table)) (pair .0) (pair .1) a b)) ⌝ }
+        ensures confined { λ r. ⌜ Confined (rows-of (now (self .entry) .table)) (related (length (rows-of (now (self .entry) .table))) r) ⌝ }
+        ensures outside { λ r. ⌜ ((length (rows-of (now (self .entry) .table)) ≤ pair .0) ⊎ (length (rows-of (now (self .entry) .table)) ≤ pair .1) → (k : ℕ) → member r k ≡ false) ⌝ }
+        ensures rest { λ r. ⌜ ((k : ℕ) → length (rows-of (now (self .entry) .table)) * length (rows-of (now (self .entry) .table)) ≤ k → member r k ≡ false) ⌝ }
+    {
+        let n = self.count();
+        let mut done = [0; PAIR_WORDS];
+        let mut pending = [0; PAIR_WORDS];
+        pend(&done, &mut pending, self.place(Some(pair)));
+        while let Some(k) = sets::next(&pending, 0) {
+            sets::remove(&mut pending, k);
+            sets::put(&mut done, k);
+            self.name_pair(&done, &mut pending, ((k / n) as u8, (k % n) as u8));
+        }
+        done
+    }
+
+    // Whether the first row of a pair is below the second, decided on the pairs that it leans on alone. No, if it is no pair of rows.
+    pub fn below(&self, pair: (u8, u8)) -> bool
+        ensures below { λ r. ⌜ (pair .0 < length (rows-of (now (self .entry) .table)) → pair .1 < length (rows-of (now (self .entry) .table)) → Decides r (Below (rows-of (now (self .entry) .table)) (pair .0) (pair .1))) ⌝ }
+        ensures included { λ r. ⌜ (pair .0 < length (rows-of (now (self .entry) .table)) → pair .1 < length (rows-of (now (self .entry) .table)) → Decides r (Included (rows-of (now (self .entry) .table)) (pair .0) (pair .1))) ⌝ }
+        ensures outside { λ r. ⌜ ((length (rows-of (now (self .entry) .table)) ≤ pair .0) ⊎ (length (rows-of (now (self .entry) .table)) ≤ pair .1) → r ≡ false) ⌝ }
+    {
+        let mut pairs = self.leaned(pair);
+        self.narrow(&mut pairs);
+        self.relates(&pairs, pair.0, pair.1)
     }
 }
