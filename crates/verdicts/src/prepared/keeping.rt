@@ -47,7 +47,7 @@ impl Prepared {
     pub(crate) fn relates(&self, pairs: &[u64], p: u8, q: u8) -> bool
         ensures { λ r. ⌜ r ≡ related (length (rows-of (now (self .entry) .table))) (now (pairs .entry)) p q ⌝ }
     {
-        let n = self.table.count();
+        let n = self.count();
         (p as usize) < n && (q as usize) < n && sets::test(pairs, p as usize * n + q as usize)
     }
 
