@@ -123,14 +123,38 @@ module _ (t : Prepared) (p q : ℕ) where
   at-place {a} {b} {k} o h g e is = ap (place-of size) is ∙ place-in size a b h g ∙ ap Some (sym e)
 
   pub named-is : (k : ℕ) → NamedFor rows p q k → ByChannels k ⊎ ByElements k
-  named-is k (a, b, h, g, e, receives {k = c₁} {k′ = c₂} c d o v) = inl (c .number, d .number, channel-in t p c, channel-in t q d, inl (at-place (named-by (nth rows (c .number)) (nth rows (d .number)) .0) h g e
-      (ap (λ r. named-by r (nth rows (d .number)) .0) (c .is) ∙ ap (λ r. named-by-channel c₁ a r .0) (d .is) ∙ forward-in o a b v)))
-  named-is k (a, b, h, g, e, sends {k = c₁} {k′ = c₂} c d o v) = inl (c .number, d .number, channel-in t p c, channel-in t q d, inr (at-place (named-by (nth rows (c .number)) (nth rows (d .number)) .1) h g e
-      (ap (λ r. named-by r (nth rows (d .number)) .1) (c .is) ∙ ap (λ r. named-by-channel c₁ b r .1) (d .is) ∙ backward-in o b a v)))
-  named-is k (a, b, h, g, e, inside {l} {n} {l′} {n′} x f f′ m m′) = inr (f .number, f′ .number, element-in t p f, element-in t q f′, inl (at-place (named-by (nth rows (f .number)) (nth rows (f′ .number)) .0) h g e
-      (ap (λ r. named-by r (nth rows (f′ .number)) .0) (f .is) ∙ ap (λ r. named-by-element l a n r .0) (f′ .is) ∙ on-first l a n l′ b n′ (meets-decides l l′ .1 (x, m, m′)))))
-  named-is k (a, b, h, g, e, following {l} {i} {l′} {i′} x f f′ m m′) = inr (f .number, f′ .number, element-in t p f, element-in t q f′, inr (at-place (named-by (nth rows (f .number)) (nth rows (f′ .number)) .1) h g e
-      (ap (λ r. named-by r (nth rows (f′ .number)) .1) (f .is) ∙ ap (λ r. named-by-element l i a r .1) (f′ .is) ∙ on-second l i a l′ i′ b (meets-decides l l′ .1 (x, m, m′)))))
+  named-is k (a, b, h, g, e, receives {k = c₁} {k′ = c₂} c d o v) = inl (
+    c .number,
+    d .number,
+    channel-in t p c,
+    channel-in t q d,
+    inl (at-place (named-by (nth rows (c .number)) (nth rows (d .number)) .0) h g e
+        (ap (λ r. named-by r (nth rows (d .number)) .0) (c .is) ∙ ap (λ r. named-by-channel c₁ a r .0) (d .is) ∙ forward-in o a b v)),
+  )
+  named-is k (a, b, h, g, e, sends {k = c₁} {k′ = c₂} c d o v) = inl (
+    c .number,
+    d .number,
+    channel-in t p c,
+    channel-in t q d,
+    inr (at-place (named-by (nth rows (c .number)) (nth rows (d .number)) .1) h g e
+        (ap (λ r. named-by r (nth rows (d .number)) .1) (c .is) ∙ ap (λ r. named-by-channel c₁ b r .1) (d .is) ∙ backward-in o b a v)),
+  )
+  named-is k (a, b, h, g, e, inside {l} {n} {l′} {n′} x f f′ m m′) = inr (
+    f .number,
+    f′ .number,
+    element-in t p f,
+    element-in t q f′,
+    inl (at-place (named-by (nth rows (f .number)) (nth rows (f′ .number)) .0) h g e
+        (ap (λ r. named-by r (nth rows (f′ .number)) .0) (f .is) ∙ ap (λ r. named-by-element l a n r .0) (f′ .is) ∙ on-first l a n l′ b n′ (meets-decides l l′ .1 (x, m, m′)))),
+  )
+  named-is k (a, b, h, g, e, following {l} {i} {l′} {i′} x f f′ m m′) = inr (
+    f .number,
+    f′ .number,
+    element-in t p f,
+    element-in t q f′,
+    inr (at-place (named-by (nth rows (f .number)) (nth rows (f′ .number)) .1) h g e
+        (ap (λ r. named-by r (nth rows (f′ .number)) .1) (f .is) ∙ ap (λ r. named-by-element l i a r .1) (f′ .is) ∙ on-second l i a l′ i′ b (meets-decides l l′ .1 (x, m, m′)))),
+  )
 
   by-channels : (k : ℕ) → ByChannels k → NamedFor rows p q k
   by-channels k (c, d, m, m′, named) =

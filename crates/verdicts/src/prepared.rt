@@ -16,7 +16,7 @@ pub struct Prepared {
     ghost ready: { ∥ Ready (rows-of table) voids channels elements labels ∥₁ },
 }
 
-pub mod sorting;
-pub mod keeping;
 pub mod deciding;
+pub mod keeping;
 pub mod leaning;
+pub mod sorting;

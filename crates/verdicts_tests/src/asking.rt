@@ -26,5 +26,9 @@ pub fn ask(text: &[u8], pair: (u8, u8), yes: bool, leaned: usize) -> Result<(), 
     let place = pair.0 as usize * table.count() + pair.1 as usize;
     check_eq(sets::test(&table.verdicts(), place), yes)?;
     check_eq(sets::test(&table.leaned(pair), place), true)?;
-    if leaned > 0 { check_eq(size(&table.leaned(pair)), leaned) } else { Ok(()) }
+    if leaned > 0 {
+        check_eq(size(&table.leaned(pair)), leaned)
+    } else {
+        Ok(())
+    }
 }

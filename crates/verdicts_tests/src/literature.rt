@@ -2,7 +2,8 @@
 use super::asking::ask;
 use std::test::*;
 
-const BOOLEANS_AND_CHANNELS: &[u8] = b"V,,,\nN,,,\nU,,3,4\nE,0000000000000400,0,0\nE,0000000000000800,0,0\nE,0000000000000040,2,6\nU,,0,5\nE,0000000000000080,2,8\nE,0000000000000100,10,9\nE,0000000000000200,10,0\nU,,0,7\nU,,6,10\nC,o,2,\nC,b,2,\nC,o,15,\nU,,12,14\nC,o,1,\nC,i,20,\nU,,16,17\nE,ffffffffffffffff,20,20\nU,,21,18\nU,,0,19\nE,0000000000000002,0,0\nC,o,22,\nC,o,20,\nC,i,1,\nC,b,20,\nC,b,1,\nC,i,6,\nC,i,10,\nU,,28,29\nC,i,11,\nC,o,6,\nC,o,10,\nU,,32,33\nC,o,11,\nE,0000000000000002,36,0\nE,ffffffffffffffff,0,0\nE,fffffffffffffffd,0,0\nU,,22,38\nU,,0,40\nU,,0,41\nE,0000000000000002,36,0\nU,,22,42\nC,b,37,\nC,b,39,\nC,b,6,\nC,b,11,\n";
+const BOOLEANS_AND_CHANNELS: &[u8] =
+    b"V,,,\nN,,,\nU,,3,4\nE,0000000000000400,0,0\nE,0000000000000800,0,0\nE,0000000000000040,2,6\nU,,0,5\nE,0000000000000080,2,8\nE,0000000000000100,10,9\nE,0000000000000200,10,0\nU,,0,7\nU,,6,10\nC,o,2,\nC,b,2,\nC,o,15,\nU,,12,14\nC,o,1,\nC,i,20,\nU,,16,17\nE,ffffffffffffffff,20,20\nU,,21,18\nU,,0,19\nE,0000000000000002,0,0\nC,o,22,\nC,o,20,\nC,i,1,\nC,b,20,\nC,b,1,\nC,i,6,\nC,i,10,\nU,,28,29\nC,i,11,\nC,o,6,\nC,o,10,\nU,,32,33\nC,o,11,\nE,0000000000000002,36,0\nE,ffffffffffffffff,0,0\nE,fffffffffffffffd,0,0\nU,,22,38\nU,,0,40\nU,,0,41\nE,0000000000000002,36,0\nU,,22,42\nC,b,37,\nC,b,39,\nC,b,6,\nC,b,11,\n";
 
 #[test]
 fn channels_0() -> Result<(), Fail> {

@@ -39,7 +39,8 @@ impl<'a> Rule for Keeping<'a> as KeepingRule {
         if place >= n * n {
             return true;
         }
-        self.prepared.keeps(((place / n) as u8, (place % n) as u8), set)
+        self.prepared
+            .keeps(((place / n) as u8, (place % n) as u8), set)
     }
 }
 

@@ -56,9 +56,12 @@ impl Prepared {
         ensures { λ r. ⌜ r ≡ capable (c .0) (d .0) (related (length (rows-of (now (self .entry) .table))) (now (pairs .entry)) (c .1) (d .1)) (related (length (rows-of (now (self .entry) .table))) (now (pairs .entry)) (d .1) (c .1)) ⌝ }
     {
         match (c.0, d.0) {
-            (Capability::In | Capability::Both, Capability::In) if self.relates(pairs, c.1, d.1) => true,
-            (Capability::Out | Capability::Both, Capability::Out) if self.relates(pairs, d.1, c.1) => true,
-            (Capability::Both, Capability::Both) if self.relates(pairs, c.1, d.1) && self.relates(pairs, d.1, c.1) => true,
+            (Capability::In | Capability::Both, Capability::In) if self.relates(pairs, c.1, d.1) =>
+                true,
+            (Capability::Out | Capability::Both, Capability::Out)
+                if self.relates(pairs, d.1, c.1) => true,
+            (Capability::Both, Capability::Both)
+                if self.relates(pairs, c.1, d.1) && self.relates(pairs, d.1, c.1) => true,
             _ => false,
         }
     }
@@ -68,7 +71,11 @@ impl Prepared {
         ensures { λ r. ⌜ r ≡ takes (related (length (rows-of (now (self .entry) .table))) (now (pairs .entry))) (c .0) (c .1) (nth (rows-of (now (self .entry) .table)) d) ⌝ }
     {
         match self.table.row(d) {
-            Some(Row::Channel(capability, payload)) => self.channel_below(pairs, c, (capability, payload)),
+            Some(Row::Channel(capability, payload)) => self.channel_below(
+                pairs,
+                c,
+                (capability, payload),
+            ),
             _ => false,
         }
     }
@@ -78,11 +85,15 @@ impl Prepared {
         ensures { λ r. ⌜ r ≡ agrees-at (related (length (rows-of (now (self .entry) .table))) (now (pairs .entry))) labels (parts .0) (parts .1) (nth (rows-of (now (self .entry) .table)) f) ⌝ }
     {
         match self.table.row(f) {
-            Some(Row::Element {
-                labels: other,
-                inside,
-                following,
-            }) => !share(labels, other) || (self.relates(pairs, parts.0, inside) && self.relates(pairs, parts.1, following)),
+            Some(
+                Row::Element {
+                    labels: other,
+                    inside,
+                    following,
+                },
+            ) => !share(labels, other)
+                || (self.relates(pairs, parts.0, inside)
+                    && self.relates(pairs, parts.1, following)),
             _ => true,
         }
     }
@@ -92,11 +103,13 @@ impl Prepared {
         ensures { λ r. ⌜ r ≡ agrees (related (length (rows-of (now (self .entry) .table))) (now (pairs .entry))) row (nth (rows-of (now (self .entry) .table)) f) ⌝ }
     {
         match row {
-            Some(Row::Element {
-                labels,
-                inside,
-                following,
-            }) => self.agrees_at(pairs, labels, (inside, following), f),
+            Some(
+                Row::Element {
+                    labels,
+                    inside,
+                    following,
+                },
+            ) => self.agrees_at(pairs, labels, (inside, following), f),
             _ => true,
         }
     }
@@ -105,7 +118,11 @@ impl Prepared {
     fn labels_at(&self, p: u8) -> u64
         ensures { λ r. ⌜ r ≡ labels-at (now (self .entry) .labels) p ⌝ }
     {
-        if (p as usize) < MAX_ROWS { self.labels[p as usize] } else { 0 }
+        if (p as usize) < MAX_ROWS {
+            self.labels[p as usize]
+        } else {
+            0
+        }
     }
 
     // Whether row p offers a void row.
@@ -188,7 +205,11 @@ impl Prepared {
     fn voids_kept(&self, p: u8, q: u8) -> bool
         ensures { λ r. ⌜ Decides r (((o : ℕ) × (in-row (now (self .entry) .voids) p o ≡ true)) → (o : ℕ) × (in-row (now (self .entry) .voids) q o ≡ true)) ⌝ }
     {
-        if self.offers_void(p) { self.offers_void(q) } else { true }
+        if self.offers_void(p) {
+            self.offers_void(q)
+        } else {
+            true
+        }
     }
 
     // Whether the pair keeps the rules within the set of pairs. A number outside the table offers nothing.

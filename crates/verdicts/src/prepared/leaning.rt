@@ -48,15 +48,21 @@ fn named_by_channel(c: (Capability, u8), row: Option<Row>) -> (Option<(u8, u8)>,
 }
 
 // The pairs of parts that the rules name for an element and a row.
-fn named_by_element(labels: u64, parts: (u8, u8), row: Option<Row>) -> (Option<(u8, u8)>, Option<(u8, u8)>)
+fn named_by_element(
+    labels: u64,
+    parts: (u8, u8),
+    row: Option<Row>,
+) -> (Option<(u8, u8)>, Option<(u8, u8)>)
     ensures { λ r. ⌜ r ≡ named-by-element labels (parts .0) (parts .1) row ⌝ }
 {
     match row {
-        Some(Row::Element {
-            labels: other,
-            inside,
-            following,
-        }) => {
+        Some(
+            Row::Element {
+                labels: other,
+                inside,
+                following,
+            },
+        ) => {
             if share(labels, other) {
                 (Some((parts.0, inside)), Some((parts.1, following)))
             } else {
@@ -73,11 +79,13 @@ fn named_by(c: Option<Row>, d: Option<Row>) -> (Option<(u8, u8)>, Option<(u8, u8
 {
     match c {
         Some(Row::Channel(capability, payload)) => named_by_channel((capability, payload), d),
-        Some(Row::Element {
-            labels,
-            inside,
-            following,
-        }) => named_by_element(labels, (inside, following), d),
+        Some(
+            Row::Element {
+                labels,
+                inside,
+                following,
+            },
+        ) => named_by_element(labels, (inside, following), d),
         _ => (None, None),
     }
 }
@@ -104,7 +112,11 @@ impl Prepared {
         match pair {
             Some((p, q)) => {
                 let n = self.count();
-                if (p as usize) < n && (q as usize) < n { Some(p as usize * n + q as usize) } else { None }
+                if (p as usize) < n && (q as usize) < n {
+                    Some(p as usize * n + q as usize)
+                } else {
+                    None
+                }
             }
             None => None,
         }

@@ -31,8 +31,7 @@ pub returns : need.returns
 returns c =
     let t = c .args .self .now in
     let R = related (length (rows-of (t .table))) (c .args .pairs .now) in
-    let tells = covers-same (c .covers .result) (c .labels-at .ensures) (c .labels-at-2 .ensures) (c .covers .ensures) in
-    (
+    let tells = covers-same (c .covers .result) (c .labels-at .ensures) (c .labels-at-2 .ensures) (c .covers .ensures) in (
       λ e. keeps-from t R (c .args .pair .0) (c .args .pair .1) (c .voids-kept .ensures .0 (c .if-not-voids-kept .left)) (tells .0 (c .if-not-covers .left)) (c .rows-taken .ensures .0 (c .if-not-rows-taken .left)) (c .rows-agree .ensures .0 e),
       λ k. c .rows-agree .ensures .1 (keeps-agree t R (c .args .pair .0) (c .args .pair .1) k),
     )
