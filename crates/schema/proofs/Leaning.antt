@@ -87,7 +87,7 @@ leans-in : (rows : List Row) → Bounded rows → {p q a b : ℕ} → Leans rows
 leans-in rows bounded on-itself h = h
 leans-in rows bounded (on-named named leans) h = leans-in rows bounded leans (square-confined rows bounded _ _ _ _ h named)
 
-leans-on : {rows : List Row} {p q a b c d : ℕ} → Leans rows p q a b → Names rows a b c d → Leans rows p q c d
+pub leans-on : {rows : List Row} {p q a b c d : ℕ} → Leans rows p q a b → Names rows a b c d → Leans rows p q c d
 leans-on on-itself named = on-named named on-itself
 leans-on (on-named first leans) named = on-named first (leans-on leans named)
 

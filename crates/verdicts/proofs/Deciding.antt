@@ -1,7 +1,7 @@
 -- Narrowing a set of places gives the largest part of a relation all pairs of which keep the rules. Assumes nothing.
 use mathlib.Core.Path.{_≡_, refl, sym, ap, subst, _∙_}
 use mathlib.Core.List.{List}
-use mathlib.Core.Logic.{⊎-elim}
+use mathlib.Core.Logic.{_⊎_, ⊎-elim}
 use mathlib.Core.Bool.{Bool, true, false, not, _&&_, _||_}
 use Prim.Native.Nat.{ℕ, _+_, _*_, _/_, _%_, _<_, _≤_}
 use native.Mathlib.Omega.{arith}
@@ -9,7 +9,7 @@ use lib.Dec.{ltb, eqb}
 use lib.ListN.{length}
 use Rattle.std.specs.Orderings.{Decides}
 use Rattle.std.proofs.shelf.Bits.{mul-add-lt, div-mul-add, mod-mul-add, div-below, mod-below, mul-le, div-add-mod'}
-use Rattle.std.proofs.shelf.Tests.{both-ways, cases-bool, and-parts, and-from, or-cases, or-left, or-right, lt-ltb, le-ltb, ltb-true, eqb-true, eq-eqb, not-true, not-from-true, not-from-false}
+use Rattle.std.proofs.shelf.Tests.{both-ways, cases-bool, and-parts, and-from, and-left, and-right, or-cases, or-left, or-right, lt-ltb, le-ltb, ltb-true, eqb-true, eq-eqb, not-true, not-from-true, not-from-false}
 use Rattle.std.proofs.shelf.Ways.{same-from-decides}
 use Rattle.sets.specs.Sets.{member}
 use Rattle.forms.specs.Buffers.{rows-of}
@@ -32,6 +32,11 @@ between-parts n S p q h =
 
 pub between-from : (n : ℕ) (S : ℕ → Bool) (p q : ℕ) → p < n → q < n → S (p * n + q) ≡ true → between n S p q ≡ true
 between-from n S p q a b c = and-from (ltb p n) (ltb q n && S (p * n + q)) (lt-ltb p n a) (and-from (ltb q n) (S (p * n + q)) (lt-ltb q n b) c)
+
+pub between-out : (n : ℕ) (words : List ℕ) (p q : ℕ) → (n ≤ p) ⊎ (n ≤ q) → related n words p q ≡ false
+between-out n words p q = ⊎-elim
+    (λ h. and-left (ltb p n) (ltb q n && member words (p * n + q)) (le-ltb p n h))
+    (λ h. and-right (ltb p n) (ltb q n && member words (p * n + q)) (and-left (ltb q n) (member words (p * n + q)) (le-ltb q n h)))
 
 -- the place of a pair, and the pair of a place
 pub place-div : (n p q : ℕ) → q < n → (p * n + q) / n ≡ p

@@ -86,10 +86,10 @@ module _ (t : Prepared) where
   void-out : (p : ℕ) → ((o : ℕ) × (in-row (t .voids) p o ≡ true)) → OffersVoid rows p
   void-out p (o, m) = let (offers, _, is) = ready-of t .empties p o .0 m in (o, offers, is)
 
-  channel-in : (p : ℕ) {k : Capability} {s : ℕ} (c : OffersChannel rows p k s) → in-row (t .channels) p (c .number) ≡ true
+  pub channel-in : (p : ℕ) {k : Capability} {s : ℕ} (c : OffersChannel rows p k s) → in-row (t .channels) p (c .number) ≡ true
   channel-in p {k} {s} c = ready-of t .addresses p (c .number) .1 (c .offered, of-channel (c .is), (k, s, c .is))
 
-  element-in : (p : ℕ) {l i n : ℕ} (e : OffersElement rows p l i n) → in-row (t .elements) p (e .number) ≡ true
+  pub element-in : (p : ℕ) {l i n : ℕ} (e : OffersElement rows p l i n) → in-row (t .elements) p (e .number) ≡ true
   element-in p {l} {i} {n} e = ready-of t .parts p (e .number) .1 (e .offered, e .inhabited, (l, i, n, e .is))
 
   abbrev Labelled-by : ℕ → ℕ → Type 0

@@ -6,3 +6,6 @@ pub mod Tests
 pub mod Keeping
 pub mod Deciding
 pub mod Verdicts
+pub mod Pending
+pub mod Naming
+pub mod Leaning

@@ -6,3 +6,4 @@ pub mod Sorting
 pub mod Facts
 pub mod Tests
 pub mod Asking
+pub mod Naming

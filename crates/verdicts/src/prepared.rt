@@ -18,4 +18,5 @@ pub struct Prepared {
 
 pub mod deciding;
 pub mod keeping;
+pub mod leaning;
 pub mod sorting;

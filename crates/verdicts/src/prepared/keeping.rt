@@ -22,7 +22,7 @@ use relation::admission::meets;
 use sets;
 
 // Whether two label sets have a label in common.
-fn share(a: u64, b: u64) -> bool
+pub(crate) fn share(a: u64, b: u64) -> bool
     ensures { λ r. ⌜ r ≡ meeting a b ⌝ }
 {
     meets(a, b)
@@ -44,10 +44,10 @@ impl Prepared {
     }
 
     // Whether the set has the pair.
-    fn relates(&self, pairs: &[u64], p: u8, q: u8) -> bool
+    pub(crate) fn relates(&self, pairs: &[u64], p: u8, q: u8) -> bool
         ensures { λ r. ⌜ r ≡ related (length (rows-of (now (self .entry) .table))) (now (pairs .entry)) p q ⌝ }
     {
-        let n = self.table.count();
+        let n = self.count();
         (p as usize) < n && (q as usize) < n && sets::test(pairs, p as usize * n + q as usize)
     }
 

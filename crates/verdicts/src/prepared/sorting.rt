@@ -13,6 +13,7 @@ ghost use Rattle.forms.specs.Rows.{belongs};
 ghost use Rattle.forms.specs.Buffers.{rows-of};
 ghost use Rattle.relation.specs.Admission.{Admitted, Finds};
 ghost use Rattle.relation.specs.Faults.{admission-refusal};
+ghost use Rattle.schema.specs.Theorems.{Reflexive-needs-determined};
 ghost use Rattle.verdicts.specs.Ready.{in-row, labels-in, Labelling};
 ghost use Rattle.verdicts.specs.Sorting.{picked};
 use super::super::kinds::Kind;
@@ -91,9 +92,10 @@ fn gather_labels(table: &RowBuffer, elements: &[u64]) -> [u64; MAX_ROWS]
 }
 
 impl Prepared {
-    // Prepares the table of a source, or says why it is not admitted.
+    // Prepares the table of a source, or says why it is not admitted. Where a label came twice, a row might not be below itself.
     pub fn of<S: FormSource>(source: &S) -> Result<Prepared, AdmissionFault>
-        ensures { λ r. ⌜ Cases r (λ t. (rows-of (t .table) ≡ S·FormSource .rows (now (source .entry))) × Admitted (S·FormSource .rows (now (source .entry)))) (λ e. Finds (S·FormSource .rows (now (source .entry))) (admission-refusal e)) ⌝ }
+        ensures prepared { λ r. ⌜ Cases r (λ t. (rows-of (t .table) ≡ S·FormSource .rows (now (source .entry))) × Admitted (S·FormSource .rows (now (source .entry)))) (λ e. Finds (S·FormSource .rows (now (source .entry))) (admission-refusal e)) ⌝ }
+        ensures needed { λ _. ⌜ Reflexive-needs-determined ⌝ }
     {
         let analysis = admit(source)?;
         let table = RowBuffer::of(source);

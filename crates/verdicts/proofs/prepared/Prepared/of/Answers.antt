@@ -1,8 +1,10 @@
+use borrow.Author.Needs.{needs}
 use mathlib.Core.Path.{sym, subst}
 use Rattle.forms.specs.Buffers.{rows-of}
 use Rattle.forms.specs.Laws.{buffer-laws}
 use Rattle.relation.specs.Admission.{Admitted}
 use Rattle.relation.specs.Judged.{Analyzed}
+use Rattle.schema.proofs.Undetermined.{reflexive-needs-determined}
 use Rattle.verdicts.proofs.Preparing.{made-ready}
 use Rattle.verdicts.proofs.prepared.Prepared.of.Needs as need
 
@@ -17,3 +19,9 @@ ghost-result g c =
           (c .gather-voids .ensures) (c .gather-channels .ensures) (c .gather-elements .ensures) (c .gather-labels-labels .ensures) ∣₁,
       tt,
     )
+
+pub returns-in-Break-analysis : need.returns-in-Break-analysis
+returns-in-Break-analysis g c = record { prepared = search needs; needed = reflexive-needs-determined }
+
+pub returns : need.returns
+returns g c = record { prepared = search needs; needed = reflexive-needs-determined }
