@@ -1,14 +1,11 @@
 -- Two elements with one label and different insides: their union is not below itself.
-use mathlib.Core.Path.{_≡_, refl, subst}
+use mathlib.Core.Path.{refl}
 use mathlib.Core.List.{List, [], _∷_}
-use Prim.Native.Nat.{ℕ}
 use native.Mathlib.Omega.{arith}
-use Rattle.std.specs.declared.option.Option.the-variants.{Some}
 use Rattle.forms.specs.Rows.{NumbersBelow, Labelled}
 use Rattle.forms.specs.declared.Row.{Row}
 use Rattle.forms.specs.declared.Row.the-variants.{Void, Channel, Element, Union}
 use Rattle.forms.specs.declared.Capability.the-variants.{In}
-use Rattle.std.specs.shelf.Maps.{nth}
 use Rattle.schema.specs.Rules.{OffersElement, Below}
 use Rattle.forms.specs.Schema.Offers.{itself, left, right}
 use Rattle.forms.specs.Schema.Inhabited.{of-void, of-channel, of-element}

@@ -8,12 +8,10 @@ use native.Mathlib.Omega.{arith}
 use lib.Dec.{ltb, eqb}
 use lib.ListN.{length}
 use Rattle.std.specs.Orderings.{Decides}
-use Rattle.std.proofs.shelf.Bits.{mul-add-lt, div-mul-add, mod-mul-add, div-below, mod-below, mul-le, div-add-mod'}
-use Rattle.std.proofs.shelf.Tests.{both-ways, cases-bool, and-parts, and-from, and-left, and-right, or-cases, or-left, or-right, lt-ltb, le-ltb, ltb-true, eqb-true, eq-eqb, not-true, not-from-true, not-from-false}
+use Rattle.std.proofs.shelf.Bits.{mul-add-lt, div-mul-add, mod-mul-add, div-below, mul-le, div-add-mod'}
+use Rattle.std.proofs.shelf.Tests.{both-ways, cases-bool, and-parts, and-from, and-left, and-right, lt-ltb, le-ltb, ltb-true, eqb-true, eq-eqb}
 use Rattle.std.proofs.shelf.Ways.{same-from-decides}
 use Rattle.sets.specs.Sets.{member}
-use Rattle.forms.specs.Buffers.{rows-of}
-use Rattle.forms.specs.Laws.{buffer-laws}
 use Rattle.forms.specs.Limits.{max-rows}
 use Rattle.forms.specs.declared.Row.{Row}
 use Rattle.narrowing.specs.Narrowing.{Within, Narrowed}

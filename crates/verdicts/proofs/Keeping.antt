@@ -2,11 +2,11 @@
 use mathlib.Core.Path.{_≡_, refl, sym, ap, subst, _∙_}
 use mathlib.Core.List.{List}
 use mathlib.Core.Logic.{⊎-elim}
-use mathlib.Core.Bool.{Bool, true, false, cond, not, _&&_, _||_}
+use mathlib.Core.Bool.{true, false, not, _&&_, _||_}
 use Prim.Native.Nat.{ℕ, _<_, _≤_}
 use native.Mathlib.Omega.{arith}
 use lib.Dec.{ltb}
-use lib.ListN.{length, getD}
+use lib.ListN.{getD}
 use Rattle.std.specs.Orderings.{Decides}
 use Rattle.std.specs.shelf.Maps.{nth}
 use Rattle.std.specs.declared.option.Option.{Option}
@@ -18,7 +18,6 @@ use Rattle.forms.specs.Buffers.{rows-of}
 use Rattle.forms.specs.Laws.{buffer-laws}
 use Rattle.forms.specs.Limits.{max-rows}
 use Rattle.forms.specs.Rows.{belongs}
-use Rattle.forms.specs.Schema.{Offers, Inhabited}
 use Rattle.forms.specs.Schema.Inhabited.{of-void, of-channel}
 use Rattle.forms.specs.declared.Row.{Row}
 use Rattle.forms.specs.declared.Row.the-variants.{Void, Nothing, Channel, Element, Union}
@@ -27,7 +26,6 @@ use Rattle.forms.specs.declared.Capability.the-variants.{In, Out, Both}
 use Rattle.relation.proofs.Labels.{meets-decides}
 use Rattle.schema.specs.Rules.{OffersVoid, OffersChannel, OffersElement, _⊑_, Relation, Payloads, Keeps}
 use Rattle.schema.specs.Rules._⊑_.{same, both}
-use Rattle.schema.proofs.Findings.{never}
 use Rattle.schema.proofs.Offered.{offering-below}
 use Rattle.verdicts.specs.Facts.{ready-of}
 use Rattle.verdicts.specs.Ready.{in-row, labels-in}

@@ -2,13 +2,13 @@
 use mathlib.Core.Path.{_≡_, refl, sym, ap, subst, subst₂, _∙_}
 use mathlib.Core.List.{List}
 use mathlib.Core.Logic.{_⊎_, inl, inr, ⊎-elim}
-use mathlib.Core.Bool.{Bool, true, false, cond, _||_}
+use mathlib.Core.Bool.{true, false, cond, _||_}
 use Prim.Native.Nat.{ℕ, _+_, _-_, _*_, _/_, _%_, _<_, _≤_}
 use native.Mathlib.Omega.{arith}
 use lib.Dec.{eqb}
 use lib.ListN.{length, replicate, length-replicate}
 use Rattle.std.specs.Orderings.{Decides}
-use Rattle.std.specs.declared.option.Option.the-variants.{Some, None}
+use Rattle.std.specs.declared.option.Option.the-variants.{Some}
 use Rattle.std.proofs.shelf.Bits.{mul-add-lt}
 use Rattle.std.proofs.shelf.Tests.{both-ways, cases-bool, cases-eq, or-cases, or-left, or-right, or-from, eqb-true, eq-eqb, ne-eqb, cond-true, cond-false}
 use Rattle.sets.specs.Sets.{member, tally, word, top}
@@ -23,7 +23,7 @@ use Rattle.schema.specs.Theorems.{Confined}
 use Rattle.schema.proofs.Leaning.{leans-on}
 use Rattle.schema.proofs.Order.{square-in, square-out, square-confined}
 use Rattle.verdicts.specs.Naming.{place-of, NamedFor, Pended}
-use Rattle.verdicts.specs.Pairs.{between, related}
+use Rattle.verdicts.specs.Pairs.{related}
 use Rattle.verdicts.proofs.Deciding.{between-parts, between-from, place-div, place-mod}
 use Rattle.verdicts.proofs.Naming.{place-in, place-parts}
 

@@ -1,8 +1,8 @@
 -- The pairs that are noted for a pair are those that the rules name for it. Assumes nothing.
-use mathlib.Core.Path.{_≡_, refl, sym, ap, subst, subst₂, _∙_}
+use mathlib.Core.Path.{_≡_, refl, sym, ap, subst₂, _∙_}
 use mathlib.Core.List.{List}
 use mathlib.Core.Logic.{_⊎_, inl, inr, ⊎-elim}
-use mathlib.Core.Bool.{Bool, true, false, cond, _&&_}
+use mathlib.Core.Bool.{Bool, true, cond, _&&_}
 use Prim.Native.Nat.{ℕ, _+_, _*_, _<_}
 use lib.Dec.{ltb}
 use lib.ListN.{length}
@@ -11,9 +11,7 @@ use Rattle.std.specs.declared.option.Option.{Option}
 use Rattle.std.specs.declared.option.Option.the-variants.{Some, None}
 use Rattle.std.proofs.shelf.Tests.{cases-bool, and-parts, and-from, lt-ltb, ltb-true, cond-true, cond-false}
 use Rattle.forms.specs.Buffers.{rows-of}
-use Rattle.forms.specs.Rows.{belongs}
 use Rattle.forms.specs.declared.Row.{Row}
-use Rattle.forms.specs.declared.Row.the-variants.{Channel, Element}
 use Rattle.forms.specs.declared.Capability.{Capability}
 use Rattle.forms.specs.declared.Capability.the-variants.{In, Out, Both}
 use Rattle.relation.proofs.Labels.{meets-decides}
@@ -22,7 +20,7 @@ use Rattle.schema.specs.Rules._⊑_.{same, both}
 use Rattle.schema.specs.Rules.Names.{receives, sends, inside, following}
 use Rattle.schema.proofs.Findings.{never}
 use Rattle.verdicts.specs.Facts.{ready-of}
-use Rattle.verdicts.specs.Naming.{Two, neither, named-payloads, named-by-channel, named-by-element, named-by, place-of, NamedAt, NamedAmong, NamedFor}
+use Rattle.verdicts.specs.Naming.{Two, neither, named-payloads, named-by-channel, named-by-element, named-by, place-of, NamedAmong, NamedFor}
 use Rattle.verdicts.specs.Ready.{in-row}
 use Rattle.verdicts.specs.Tests.{meeting}
 use Rattle.verdicts.specs.declared.prepared.Prepared.{Prepared}

@@ -3,15 +3,14 @@ use mathlib.Core.Path.{_≡_, refl, sym, ap, subst, _∙_}
 use mathlib.Core.List.{List}
 use mathlib.Core.Logic.{_⊎_, inl, inr, ⊎-elim}
 use mathlib.Core.Bool.{Bool, true, false, _||_}
-use Prim.Native.Nat.{ℕ, _+_, _*_, _<_, _≤_}
+use Prim.Native.Nat.{ℕ, _+_, _<_, _≤_}
 use native.Mathlib.Omega.{arith}
 use lib.Dec.{eqb}
 use lib.ListN.{length}
 use Rattle.std.specs.declared.option.Option.{Option}
-use Rattle.std.specs.declared.option.Option.the-variants.{Some, None}
-use Rattle.std.proofs.shelf.Tests.{both-ways, or-cases, or-left, or-right, eqb-true, eq-eqb}
-use Rattle.sets.specs.Sets.{member, word, top}
-use Rattle.schema.proofs.Findings.{never}
+use Rattle.std.specs.declared.option.Option.the-variants.{Some}
+use Rattle.std.proofs.shelf.Tests.{or-cases, or-left, or-right, eqb-true, eq-eqb}
+use Rattle.sets.specs.Sets.{member}
 use Rattle.verdicts.specs.Naming.{Pended}
 use Rattle.verdicts.proofs.Walks.{Found, Missing, walk-split, walk-end}
 

@@ -1,32 +1,26 @@
 -- That the sets of a prepared table are what they are meant to be. Assumes nothing.
-use mathlib.Core.Path.{_≡_, refl, sym, ap, subst, _∙_}
+use mathlib.Core.Path.{_≡_, sym, ap, _∙_}
 use mathlib.Core.List.{List}
-use mathlib.Core.Logic.{⊎-elim}
-use mathlib.Core.Bool.{Bool, true, false, _&&_}
+use mathlib.Core.Bool.{_&&_}
 use Prim.Native.Nat.{ℕ, _+_, _*_, _/_, _%_, _<_, _≤_}
 use native.Mathlib.Omega.{arith}
 use lib.Dec.{ltb}
 use lib.ListN.{length, getD}
 use Rattle.std.specs.Orderings.{Decides}
 use Rattle.std.specs.shelf.Maps.{nth}
-use Rattle.std.specs.declared.option.Option.{Option}
-use Rattle.std.specs.declared.option.Option.the-variants.{Some, None}
 use Rattle.std.proofs.shelf.Bits.{div-mul-add, mod-mul-add}
-use Rattle.std.proofs.shelf.Tests.{both-ways, and-parts, and-from, lt-ltb, ltb-true}
+use Rattle.std.proofs.shelf.Tests.{and-parts, and-from, lt-ltb, ltb-true}
 use Rattle.sets.specs.Sets.{member}
 use Rattle.forms.specs.Limits.{max-rows}
-use Rattle.forms.specs.Rows.{belongs}
 use Rattle.forms.specs.declared.Row.{Row}
-use Rattle.forms.specs.declared.Row.the-variants.{Void, Nothing, Channel, Element, Union}
 use Rattle.relation.specs.Admission.{Admitted}
 use Rattle.relation.specs.Cells.{cell}
 use Rattle.relation.specs.Judged.{Analyzed}
 use Rattle.relation.specs.declared.analysis.Analysis.{Analysis}
-use Rattle.schema.proofs.Findings.{never}
 use Rattle.schema.proofs.Offered.{offered-below, offering-below}
 use Rattle.verdicts.specs.Kinds.{kind-is}
 use Rattle.verdicts.specs.Sorts.{void-tells, channel-tells, element-tells}
-use Rattle.verdicts.specs.Ready.{in-row, IsVoid, IsChannel, IsElement, Sorted, Ready, labels-in, Labelling}
+use Rattle.verdicts.specs.Ready.{in-row, IsVoid, IsChannel, IsElement, Sorted, Ready, Labelling}
 use Rattle.verdicts.specs.Sorting.{picked}
 use Rattle.verdicts.specs.declared.kinds.Kind.{Kind}
 use Rattle.verdicts.specs.declared.kinds.Kind.the-variants.{OfVoid, OfChannel, OfElement}

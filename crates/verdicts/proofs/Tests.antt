@@ -1,13 +1,12 @@
 -- What the tests of the rules tell. Assumes nothing.
 use mathlib.Core.Path.{_≡_, sym, ap, subst₂, _∙_}
-use mathlib.Core.List.{List}
 use mathlib.Core.Logic.{⊎-elim}
-use mathlib.Core.Bool.{Bool, true, false, _&&_, _||_, not}
+use mathlib.Core.Bool.{Bool, true}
 use Prim.Native.Nat.{ℕ}
 use lib.Bits.{bitOr}
 use lib.Dec.{eqb}
 use Rattle.std.specs.Orderings.{Decides}
-use Rattle.std.proofs.shelf.Tests.{both-ways, cases-bool, eqb-true, eqb-false, eq-eqb, or-left, or-right}
+use Rattle.std.proofs.shelf.Tests.{both-ways, cases-bool, eqb-true, eqb-false, or-right}
 use Rattle.sets.specs.Sets.{bit}
 use Rattle.sets.proofs.Words.{bit-or}
 use Rattle.sets.proofs.Wider.{gained}

@@ -1,15 +1,13 @@
 -- What the largest part of all pairs tells. Assumes nothing.
-use mathlib.Core.Path.{_≡_, sym, ap, subst, _∙_}
+use mathlib.Core.Path.{_≡_, _∙_}
 use mathlib.Core.List.{List}
 use mathlib.Core.Logic.{⊎-elim}
-use mathlib.Core.Bool.{Bool, true, false, _&&_}
-use Prim.Native.Nat.{ℕ, _+_, _*_, _<_, _≤_}
-use native.Mathlib.Omega.{arith}
+use mathlib.Core.Bool.{true}
+use Prim.Native.Nat.{ℕ, _+_, _*_, _<_}
 use lib.Dec.{ltb}
 use lib.ListN.{length}
-use Rattle.std.specs.Orderings.{Decides}
 use Rattle.std.proofs.shelf.Bits.{mul-add-lt}
-use Rattle.std.proofs.shelf.Tests.{both-ways, lt-ltb, le-ltb}
+use Rattle.std.proofs.shelf.Tests.{both-ways, lt-ltb}
 use Rattle.sets.specs.Sets.{member}
 use Rattle.forms.specs.declared.Row.{Row}
 use Rattle.schema.specs.Rules.{Bounded, Determined, Relation, Below, Included}
@@ -18,7 +16,7 @@ use Rattle.schema.specs.Published.{Subschema}
 use Rattle.schema.proofs.Order.{square-in, square-out, square-confined, confined-agrees, reflexive, transitive}
 use Rattle.schema.proofs.Inclusion.{below-or-witness, below-is-inclusion}
 use Rattle.schema.proofs.Published.{published-is-below}
-use Rattle.verdicts.specs.Pairs.{between, related, all-pairs, Tells, Witnessed, Transitive}
+use Rattle.verdicts.specs.Pairs.{related, all-pairs, Tells, Witnessed, Transitive}
 use Rattle.verdicts.proofs.Deciding.{between-parts, between-from}
 
 module _ (rows : List Row) (bounded : Bounded rows) (determined : Determined rows) (all words : List ℕ)

@@ -8,10 +8,10 @@ use native.Mathlib.Nat.{mul-left-comm}
 use native.Mathlib.Omega.{arith}
 use lib.Dec.{ltb}
 use lib.Seq.{getD-take, getD-drop}
-use lib.ListN.{length, getD, take, drop, length-take, length-drop}
+use lib.ListN.{length, take, drop, length-take, length-drop}
 use Rattle.std.proofs.shelf.Tests.{cases-lt, lt-ltb, le-ltb, and-left, and-parts, ltb-true, both-ways}
-use Rattle.sets.specs.Sets.{bit, member, word, top}
-use Rattle.sets.proofs.Members.{member-at, member-past, member-within}
+use Rattle.sets.specs.Sets.{bit, member, word}
+use Rattle.sets.proofs.Members.{member-at, member-past}
 use Rattle.forms.specs.Limits.{max-rows, numbers}
 use Rattle.relation.specs.Cells.{cell}
 use Rattle.verdicts.specs.Ready.{in-row}

@@ -1,31 +1,28 @@
 -- What a prepared table tells, which its ghost field holds as a mere fact: all of it can be decided, so it can be had. Assumes nothing.
-use mathlib.Core.Path.{_≡_, refl}
+use mathlib.Core.Path.{_≡_}
 use mathlib.Core.List.{List}
 use mathlib.Core.Logic.{_⊎_, inl, inr, ⊎-elim, ∥∥₁-elim}
-use mathlib.Core.Bool.{Bool, true, false, _&&_}
+use mathlib.Core.Bool.{Bool, true, _&&_}
 use Prim.Native.Nat.{ℕ, _<_}
 use native.Mathlib.Omega.{arith}
 use lib.Dec.{ltb}
 use lib.ListN.{length, getD}
 use Rattle.std.specs.Orderings.{Decides}
 use Rattle.std.specs.shelf.Maps.{nth}
-use Rattle.std.specs.declared.option.Option.the-variants.{Some}
 use Rattle.std.proofs.shelf.Tests.{both-ways, cases-bool, cases-lt, cases-eq, and-parts, and-from, ltb-true}
 use Rattle.forms.specs.Buffers.{rows-of}
 use Rattle.forms.specs.Laws.{buffer-laws}
 use Rattle.forms.specs.Limits.{max-rows}
-use Rattle.forms.specs.Rows.{NumbersBelow, Labelled, Fit, belongs}
-use Rattle.forms.specs.Schema.{Offers, Inhabited}
+use Rattle.forms.specs.Rows.{NumbersBelow, Fit, belongs}
 use Rattle.forms.specs.declared.Row.{Row}
 use Rattle.forms.specs.declared.Row.the-variants.{Void, Nothing, Channel, Element, Union}
-use Rattle.relation.specs.Admission.{Admitted, SharesLabel, Gives}
+use Rattle.relation.specs.Admission.{Admitted}
 use Rattle.relation.specs.Cells.{cell}
-use Rattle.schema.specs.Rules.{Bounded, Determined, OffersElement}
+use Rattle.schema.specs.Rules.{Bounded, Determined}
 use Rattle.schema.proofs.Findings.{each-below}
 use Rattle.schema.proofs.Offered.{nth-all, offers-or-not, inhabited-or-not}
-use Rattle.verdicts.specs.Ready.{in-row, labels-in, IsVoid, IsChannel, IsElement, Sorted, Labelling, Ready}
+use Rattle.verdicts.specs.Ready.{in-row, labels-in, IsVoid, IsChannel, IsElement, Sorted, Ready}
 use Rattle.verdicts.specs.Sorts.{void-tells, channel-tells, element-tells}
-use Rattle.verdicts.specs.Kinds.{void-row, channel-row, element-row}
 use Rattle.verdicts.specs.declared.prepared.Prepared.{Prepared}
 
 -- what can be decided can be had from the fact that it holds

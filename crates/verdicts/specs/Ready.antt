@@ -1,10 +1,10 @@
 -- What is kept of an admitted table, so that its rules can be decided fast. Assumes nothing.
 use mathlib.Core.Path.{_≡_}
 use mathlib.Core.List.{List}
-use mathlib.Core.Bool.{Bool, true, false, _&&_}
+use mathlib.Core.Bool.{Bool, true, _&&_}
 use Prim.Native.Nat.{ℕ, _<_}
 use lib.Dec.{ltb}
-use lib.ListN.{length, getD}
+use lib.ListN.{getD}
 use Rattle.std.specs.Orderings.{Decides}
 use Rattle.std.specs.shelf.Maps.{nth}
 use Rattle.std.specs.declared.option.Option.{Option}
@@ -13,7 +13,7 @@ use Rattle.forms.specs.Limits.{max-rows}
 use Rattle.forms.specs.Rows.{belongs}
 use Rattle.forms.specs.Schema.{Offers, Inhabited}
 use Rattle.forms.specs.declared.Row.{Row}
-use Rattle.forms.specs.declared.Row.the-variants.{Void, Nothing, Channel, Element, Union}
+use Rattle.forms.specs.declared.Row.the-variants.{Void, Channel, Element}
 use Rattle.forms.specs.declared.Capability.{Capability}
 use Rattle.relation.specs.Admission.{Admitted}
 use Rattle.relation.specs.Cells.{cell}

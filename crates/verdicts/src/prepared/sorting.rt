@@ -1,15 +1,12 @@
 // How a table is prepared.
 ghost use mathlib.Core.Path.{_≡_};
-ghost use mathlib.Core.Bool.{true, _&&_};
+ghost use mathlib.Core.Bool.{_&&_};
 ghost use Prim.Native.Nat.{ℕ, _*_, _/_, _%_, _<_};
 ghost use lib.Dec.{ltb};
 ghost use lib.ListN.{getD};
-ghost use Rattle.std.specs.Orderings.{Decides};
 ghost use Rattle.std.specs.Results.{Cases};
-ghost use Rattle.std.specs.shelf.Maps.{nth};
 ghost use Rattle.sets.specs.Sets.{member};
 ghost use Rattle.forms.specs.Limits.{max-rows};
-ghost use Rattle.forms.specs.Rows.{belongs};
 ghost use Rattle.forms.specs.Buffers.{rows-of};
 ghost use Rattle.relation.specs.Admission.{Admitted, Finds};
 ghost use Rattle.relation.specs.Faults.{admission-refusal};

@@ -1,16 +1,12 @@
-use mathlib.Core.Path.{_≡_, sym, subst, _∙_}
-use mathlib.Core.Logic.{⊎-elim}
-use mathlib.Core.Bool.{Bool, false}
-use Prim.Native.Nat.{ℕ, _<_}
+use mathlib.Core.Path.{sym, subst, _∙_}
+use Prim.Native.Nat.{_<_}
 use lib.ListN.{length}
 use Rattle.std.specs.Orderings.{Decides}
-use Rattle.std.proofs.shelf.Tests.{le-ltb, and-left, and-right}
 use Rattle.forms.specs.Buffers.{rows-of}
-use Rattle.schema.specs.Rules.{Below, Included}
+use Rattle.schema.specs.Rules.{Below}
 use Rattle.schema.specs.Rules.Leans.{on-itself}
 use Rattle.schema.proofs.Inclusion.{below-is-inclusion}
 use Rattle.verdicts.specs.Facts.{bounded-of, determined-of}
-use Rattle.verdicts.specs.Pairs.{related}
 use Rattle.verdicts.proofs.Deciding.{between-out}
 use Rattle.verdicts.proofs.prepared.Prepared.below.Needs as need
 

@@ -14,7 +14,7 @@ use Rattle.forms.specs.declared.Row.{Row}
 use Rattle.verdicts.specs.Facts.{bounded-of, admitted-of}
 use Rattle.verdicts.specs.Naming.{place-of, NamedFor, Pended}
 use Rattle.verdicts.specs.declared.prepared.Prepared.{Prepared}
-use Rattle.verdicts.proofs.Leaning.{Leaning, Spreading, leaning-none, leaning-more, leaning-less, place-low, leans-decided, leans-confined, leans-outside, leans-rest}
+use Rattle.verdicts.proofs.Leaning.{Leaning, leaning-none, leaning-more, leaning-less, place-low, leans-decided, leans-confined, leans-outside, leans-rest}
 use Rattle.verdicts.proofs.prepared.Prepared.leaned.Needs as need
 
 abbrev words : ℕ

@@ -1,12 +1,11 @@
-use mathlib.Core.Path.{_≡_, subst}
-use mathlib.Core.Bool.{true}
+use mathlib.Core.Path.{subst}
 use Prim.Native.Nat.{ℕ}
 use lib.ListN.{length}
 use Rattle.std.specs.shelf.Maps.{nth}
 use Rattle.forms.specs.Buffers.{rows-of}
-use Rattle.verdicts.specs.Naming.{NamedAt, NamedAmong, Pended}
+use Rattle.verdicts.specs.Naming.{NamedAt, Pended}
 use Rattle.verdicts.specs.Ready.{in-row}
-use Rattle.verdicts.proofs.Pending.{noting-more, pended-same, noting-all}
+use Rattle.verdicts.proofs.Pending.{noting-more}
 use Rattle.verdicts.proofs.prepared.Prepared.name_row.Needs as need
 
 pub loop-d-again : need.loop-d-again

@@ -1,9 +1,8 @@
 use mathlib.Core.Path.{_≡_}
 use mathlib.Core.Bool.{true}
-use Prim.Native.Nat.{ℕ, _-_, _*_, _<_}
+use Prim.Native.Nat.{ℕ, _-_}
 use lib.ListN.{length}
 use Rattle.std.specs.shelf.Maps.{nth}
-use Rattle.sets.specs.Sets.{word}
 use Rattle.forms.specs.Buffers.{rows-of}
 use Rattle.forms.specs.Limits.{max-rows}
 use Rattle.verdicts.specs.Naming.{NamedAt}

@@ -7,7 +7,7 @@ use Rattle.forms.specs.Buffers.{rows-of}
 use Rattle.forms.specs.Limits.{max-rows}
 use Rattle.verdicts.specs.Pairs.{related}
 use Rattle.verdicts.specs.Ready.{in-row}
-use Rattle.verdicts.specs.Tests.{takes, agrees, RowTaken}
+use Rattle.verdicts.specs.Tests.{agrees}
 use Rattle.verdicts.proofs.Walks.{Passed}
 use Rattle.verdicts.proofs.prepared.Prepared.rows_agree.Given as given
 

@@ -1,13 +1,10 @@
-use mathlib.Core.Path.{_≡_}
-use mathlib.Core.Bool.{true}
-use Prim.Native.Nat.{ℕ, _-_}
+use Prim.Native.Nat.{_-_}
 use lib.ListN.{length}
-use Rattle.std.specs.shelf.Maps.{nth}
 use Rattle.forms.specs.Buffers.{rows-of}
 use Rattle.forms.specs.Limits.{max-rows}
 use Rattle.verdicts.specs.Pairs.{related}
 use Rattle.verdicts.specs.Ready.{in-row}
-use Rattle.verdicts.specs.Tests.{takes, agrees, RowTaken}
+use Rattle.verdicts.specs.Tests.{RowTaken}
 use Rattle.verdicts.proofs.Walks.{Passed}
 use Rattle.verdicts.proofs.prepared.Prepared.rows_taken.Given as given
 

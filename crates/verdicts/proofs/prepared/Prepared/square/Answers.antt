@@ -3,9 +3,7 @@ use mathlib.Core.Bool.{true}
 use Prim.Native.Nat.{_*_, _/_, _≤_}
 use native.Mathlib.Omega.{arith}
 use lib.Dec.{ltb}
-use lib.ListN.{length}
 use Rattle.sets.specs.Sets.{word}
-use Rattle.forms.specs.Buffers.{rows-of}
 use Rattle.forms.specs.Laws.{buffer-laws}
 use Rattle.forms.specs.Limits.{max-rows}
 use Rattle.verdicts.proofs.Deciding.{square-small}

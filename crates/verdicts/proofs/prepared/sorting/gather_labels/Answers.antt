@@ -1,5 +1,4 @@
 use native.Mathlib.Omega.{arith}
-use Prim.Native.Nat.{ℕ}
 use Rattle.forms.specs.Buffers.{rows-of}
 use Rattle.verdicts.specs.Ready.{in-row, Labelling}
 use Rattle.verdicts.proofs.Labelling.{listed-none, listed-more}

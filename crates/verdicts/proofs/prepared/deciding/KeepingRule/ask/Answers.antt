@@ -1,7 +1,6 @@
-use mathlib.Core.Path.{_≡_, sym, subst}
+use mathlib.Core.Path.{sym, subst}
 use Prim.Native.Nat.{_<_, _≤_}
 use native.Mathlib.Omega.{arith}
-use lib.ListN.{length}
 use Rattle.forms.specs.Buffers.{rows-of}
 use Rattle.forms.specs.Laws.{buffer-laws}
 use Rattle.forms.specs.Limits.{max-rows}
