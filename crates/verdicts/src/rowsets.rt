@@ -1,8 +1,17 @@
-// A set of rows for each row: going through one of them.
+// A set of rows for each row: asking it and going through it.
+ghost use mathlib.Core.Path.{_≡_};
 ghost use Rattle.sets.specs.Sets.{Next};
 ghost use Rattle.verdicts.specs.Ready.{in-row};
+use forms::MAX_ROWS;
 use relation::offering::ROW_WORDS;
 use sets;
+
+// Whether o belongs to the set of row p.
+pub(crate) fn has(cells: &[u64], p: u8, o: u8) -> bool
+    ensures { λ r. ⌜ r ≡ in-row (now (cells .entry)) p o ⌝ }
+{
+    (o as usize) < MAX_ROWS && sets::test(cells, p as usize * MAX_ROWS + o as usize)
+}
 
 // The lowest member, not before the start, of the set of row p.
 pub(crate) fn next_in_row(cells: &[u64], p: u8, from: u8) -> Option<u8>

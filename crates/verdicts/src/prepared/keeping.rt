@@ -11,6 +11,7 @@ ghost use Rattle.schema.specs.Rules.{Keeps};
 ghost use Rattle.verdicts.specs.Pairs.{related};
 ghost use Rattle.verdicts.specs.Ready.{in-row};
 ghost use Rattle.verdicts.specs.Tests.{capable, takes, meeting, agrees-at, agrees, labels-at, RowTaken};
+use super::super::rowsets::has;
 use super::super::rowsets::next_in_row;
 use super::Prepared;
 use forms::Capability;
@@ -135,10 +136,13 @@ impl Prepared {
         }
     }
 
-    // Whether row q offers a channel row that the channel is below.
-    fn taken(&self, pairs: &[u64], c: (Capability, u8), q: u8) -> bool
+    // Whether row q offers a channel row that the channel is below. The likeliest is asked first.
+    fn taken(&self, pairs: &[u64], c: (Capability, u8), likely: u8, q: u8) -> bool
         ensures { λ r. ⌜ Decides r ((d : ℕ) × (in-row (now (self .entry) .channels) q d ≡ true) × (takes (related (length (rows-of (now (self .entry) .table))) (now (pairs .entry))) (c .0) (c .1) (nth (rows-of (now (self .entry) .table)) d) ≡ true)) ⌝ }
     {
+        if has(&self.channels, q, likely) && self.takes(pairs, c, likely) {
+            return true;
+        }
         let mut from = 0;
         while let Some(d) = next_in_row(&self.channels, q, from) {
             if self.takes(pairs, c, d) {
@@ -154,7 +158,12 @@ impl Prepared {
         ensures { λ r. ⌜ Decides r (RowTaken (rows-of (now (self .entry) .table)) (related (length (rows-of (now (self .entry) .table))) (now (pairs .entry))) (in-row (now (self .entry) .channels) q) c) ⌝ }
     {
         match self.table.row(c) {
-            Some(Row::Channel(capability, payload)) => self.taken(pairs, (capability, payload), q),
+            Some(Row::Channel(capability, payload)) => self.taken(
+                pairs,
+                (capability, payload),
+                c,
+                q,
+            ),
             _ => true,
         }
     }
