@@ -11,7 +11,7 @@ use Rattle.std.specs.Orderings.{Decides}
 use Rattle.std.specs.shelf.Maps.{nth}
 use Rattle.std.specs.declared.option.Option.{Option}
 use Rattle.std.specs.declared.option.Option.the-variants.{Some, None}
-use Rattle.std.proofs.shelf.Tests.{both-ways, cases-bool, and-parts, and-from, or-cases, or-left, or-right, lt-ltb, le-ltb, not-true, not-from-false, cases-lt, cond-true, cond-false}
+use Rattle.std.proofs.shelf.Tests.{both-ways, cases-bool, and-parts, and-from, or-cases, or-left, or-right, lt-ltb, le-ltb, not-true, not-from-false, cases-lt, cases-eq, cond-true, cond-false}
 use Rattle.sets.specs.Sets.{bit}
 use Rattle.sets.proofs.Lowest.{bit-zero}
 use Rattle.forms.specs.Buffers.{rows-of}
@@ -27,7 +27,7 @@ use Rattle.relation.proofs.Labels.{meets-decides}
 use Rattle.schema.specs.Rules.{OffersVoid, OffersChannel, OffersElement, _⊑_, Relation, Payloads, Keeps}
 use Rattle.schema.specs.Rules._⊑_.{same, both}
 use Rattle.schema.proofs.Offered.{offering-below}
-use Rattle.verdicts.specs.Facts.{ready-of}
+use Rattle.verdicts.specs.Facts.{ready-of, determined-of}
 use Rattle.verdicts.specs.Ready.{in-row, labels-in}
 use Rattle.verdicts.specs.Tests.{capable, takes, meeting, agrees-at, agrees, labels-at, RowTaken}
 use Rattle.verdicts.specs.declared.prepared.Prepared.{Prepared}
@@ -89,6 +89,24 @@ module _ (t : Prepared) where
 
   pub element-in : (p : ℕ) {l i n : ℕ} (e : OffersElement rows p l i n) → in-row (t .elements) p (e .number) ≡ true
   element-in p {l} {i} {n} e = ready-of t .parts p (e .number) .1 (e .offered, e .inhabited, (l, i, n, e .is))
+
+  -- an element row that q offers has no label in common with the others that q offers, so it has to agree with itself only
+  pub own-agrees : (R : Relation) (q e : ℕ) → in-row (t .elements) q e ≡ true → Decides (agrees R (nth rows e) (nth rows e)) ((f : ℕ) → in-row (t .elements) q f ≡ true → agrees R (nth rows e) (nth rows f) ≡ true)
+  unfolding Parts
+  own-agrees R q e m = (
+    λ own f m′. ⊎-elim (λ same. subst (λ o. agrees R (nth rows e) (nth rows o) ≡ true) same own) (apart f m′) (cases-eq e f),
+    λ all. all e m,
+  )
+    where
+      apart : (f : ℕ) → in-row (t .elements) q f ≡ true → (e ≡ f → ⊥) → agrees R (nth rows e) (nth rows f) ≡ true
+      apart f m′ other =
+          let (offers, inh, of) = ready-of t .parts q e .0 m in
+          let (l, i, n, is) = of in
+          let (offers′, inh′, of′) = ready-of t .parts q f .0 m′ in
+          let (l′, i′, n′, is′) = of′ in
+          agrees-tells R rows e f l i n l′ i′ n′ is is′ .1 (λ x b b′. absurd (other (determined-of t .one
+          (record { number = e; offered = offers; is = is; inhabited = inh })
+          (record { number = f; offered = offers′; is = is′; inhabited = inh′ }) x b b′)))
 
   abbrev Labelled-by : ℕ → ℕ → Type 0
   Labelled-by p x = (l i n : ℕ) × OffersElement rows p l i n × (belongs x l ≡ true)

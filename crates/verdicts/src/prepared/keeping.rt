@@ -196,13 +196,24 @@ impl Prepared {
         true
     }
 
+    // The same, of row e. If q offers it, no other that q offers has a label in common with it.
+    fn element_agrees(&self, pairs: &[u64], e: u8, q: u8) -> bool
+        ensures { λ r. ⌜ Decides r ((f : ℕ) → in-row (now (self .entry) .elements) q f ≡ true → agrees (related (length (rows-of (now (self .entry) .table))) (now (pairs .entry))) (nth (rows-of (now (self .entry) .table)) e) (nth (rows-of (now (self .entry) .table)) f) ≡ true) ⌝ }
+    {
+        let row = self.table.row(e);
+        if has(&self.elements, q, e) {
+            return self.agrees(pairs, row, e);
+        }
+        self.row_agrees(pairs, row, q)
+    }
+
     // The same, of all inhabited element rows that row p offers.
     fn rows_agree(&self, pairs: &[u64], p: u8, q: u8) -> bool
         ensures { λ r. ⌜ Decides r ((e : ℕ) → in-row (now (self .entry) .elements) p e ≡ true → (f : ℕ) → in-row (now (self .entry) .elements) q f ≡ true → agrees (related (length (rows-of (now (self .entry) .table))) (now (pairs .entry))) (nth (rows-of (now (self .entry) .table)) e) (nth (rows-of (now (self .entry) .table)) f) ≡ true) ⌝ }
     {
         let mut from = 0;
         while let Some(e) = next_in_row(&self.elements, p, from) {
-            if !self.row_agrees(pairs, self.table.row(e), q) {
+            if !self.element_agrees(pairs, e, q) {
                 return false;
             }
             from = e + 1;

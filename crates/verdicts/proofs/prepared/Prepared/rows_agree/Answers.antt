@@ -1,4 +1,4 @@
-use mathlib.Core.Path.{_≡_, subst}
+use mathlib.Core.Path.{_≡_}
 use mathlib.Core.Bool.{true}
 use Prim.Native.Nat.{ℕ}
 use lib.ListN.{length}
@@ -16,4 +16,4 @@ loop-e-again c =
     let rows = rows-of (t .table) in
     let P : ℕ → Type 0 = λ o. (f : ℕ) → in-row (t .elements) (c .args .q) f ≡ true → agrees (related (length rows) (c .args .pairs .now)) (nth rows o) (nth rows f) ≡ true in
     passed-more (in-row (t .elements) (c .args .p)) P (c .loop-e .from) (c .in-Some .e) (c .in-Some .ensures tt) (c .loop-e .inv)
-    (λ f h. subst (λ r. agrees (related (length rows) (c .args .pairs .now)) r (nth rows f) ≡ true) (c .row .ensures) (c .row-agrees .ensures .0 (c .if-not-row-agrees .left) f h))
+    (c .element-agrees .ensures .0 (c .if-not-element-agrees .left))
