@@ -4,7 +4,7 @@ use Rattle.std.proofs.lemmas.Bool.{both_ways, or_cases, or_left, or_right}
 use Rattle.std.proofs.lemmas.Bool.Decides.{same_from_decides}
 use Rattle.sets.specs.Sets.{tally}
 use Rattle.sets.proofs.Tallies.{tally_past}
-use Rattle.schema.specs.Counting.{Counts, tally as tally-pairs}
+use Rattle.schema.specs.Worked.{Counts, tally as tally-pairs}
 use Rattle.schema.specs.Rules.{Relation}
 
 module _ (n : ℕ) (f : ℕ → Bool) (R : Relation) where

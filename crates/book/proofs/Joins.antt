@@ -5,7 +5,7 @@ use Rattle.std.proofs.lemmas.Bool.{both_ways, and_parts, and_from, and_left, and
 use Rattle.std.proofs.lemmas.Bool.Decides.{same_from_decides}
 use Rattle.sets.specs.Sets.{member, tally, word}
 use Rattle.forms.specs.Limits.{max_rows}
-use Rattle.schema.specs.Counting.{Counts}
+use Rattle.schema.specs.Worked.{Counts}
 use Rattle.schema.specs.Rules.{Relation}
 use Rattle.schema.specs.Theorems.{Part}
 use Rattle.verdicts.specs.Pairs.{related}

@@ -8,7 +8,7 @@ use Rattle.forms.specs.Refusals.{Refusal, Outcome}
 use Rattle.forms.specs.Refusals.Outcome.{refuses, gives}
 use Rattle.forms.specs.declared.Row.{Row}
 use Rattle.documents.specs.declared.nodes.Node.{Node}
-use Rattle.schema.specs.Counting.{Counts}
+use Rattle.schema.specs.Worked.{Counts}
 use Rattle.schema.specs.Rules.Leans.{on_itself}
 use Rattle.schema.proofs.Findings.{never}
 use Rattle.fitting.specs.Fittable.{Fittable}

@@ -10,7 +10,7 @@ use Rattle.documents.specs.Nodes.{StandsFor, SoundOver}
 use Rattle.documents.specs.Nodes.StandsFor.{for_void, for_reference, for_element}
 use Rattle.documents.specs.declared.nodes.Node.{Node}
 use Rattle.forms.specs.declared.Row.{Row}
-use Rattle.schema.specs.Counting.{Counts}
+use Rattle.schema.specs.Worked.{Counts}
 use Rattle.schema.specs.Rules.{Below, Leans, Keeps, IsDocument}
 use Rattle.schema.specs.Rules.Leans.{on_itself}
 use Rattle.schema.specs.Worked.{table, alone, Shows, Case, Holds, cases}

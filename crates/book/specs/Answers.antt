@@ -7,7 +7,7 @@ use Rattle.forms.specs.Schema.{IsChannel}
 use Rattle.forms.specs.declared.Row.{Row}
 use Rattle.documents.specs.Nodes.{StandsFor}
 use Rattle.documents.specs.declared.nodes.Node.{Node}
-use Rattle.schema.specs.Counting.{Counts}
+use Rattle.schema.specs.Worked.{Counts}
 use Rattle.schema.specs.Rules.{Below, Included, Fits, Leans}
 use Rattle.verdicts.specs.Pairs.{related}
 use Rattle.fitting.specs.Fittable.{Fittable, Unfit}

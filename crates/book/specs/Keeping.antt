@@ -3,7 +3,7 @@ use Rattle.std.specs.Prelude.{◌≡◌, ℕ, ◌*◌, ◌≤◌, true, false, �
 use Rattle.sets.specs.Sets.{member, word}
 use Rattle.forms.specs.Limits.{max_rows}
 use Rattle.forms.specs.declared.Row.{Row}
-use Rattle.schema.specs.Counting.{Counts}
+use Rattle.schema.specs.Worked.{Counts}
 use Rattle.schema.specs.Rules.{Closed, Below}
 use Rattle.schema.specs.Theorems.{Part, Confined}
 use Rattle.verdicts.specs.Pairs.{related}

@@ -5,7 +5,7 @@ use Rattle.forms.specs.Refusals.{Refusal}
 use Rattle.forms.specs.Refusals.Outcome.{refuses, gives}
 use Rattle.forms.specs.declared.Row.{Row}
 use Rattle.relation.specs.Admission.{Admitted, Finds}
-use Rattle.schema.specs.Counting.{Counts}
+use Rattle.schema.specs.Worked.{Counts}
 use Rattle.book.specs.Answers.{Pairs, InTable, After, Answered}
 use Rattle.book.specs.Books.{ShutAnswered}
 use Rattle.book.specs.Calls.{Call, Answer}

@@ -1,4 +1,6 @@
 // A book of verdicts for one source of forms.
+#![tactic(auto)]
+
 pub mod calls;
 pub mod carrying;
 pub mod ledger;

@@ -1,4 +1,6 @@
 // Books of verdicts, as their users see them.
+#![tactic(auto)]
+
 #[cfg(test)]
 mod asking;
 #[cfg(test)]

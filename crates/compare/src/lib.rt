@@ -1,4 +1,6 @@
 // One question about two tables of forms, for a program in another language.
+#![tactic(auto)]
+
 ghost use Rattle.relation.specs.Sources.{JoinedIsAdmitted, TurnedIsAdmitted};
 ghost use Rattle.compare.specs.Comparing.{Compares};
 ghost use Rattle.compare.specs.Reasons.{OneFault, FaultOrAnswer, OneMeaning};

@@ -16,15 +16,17 @@ pub data StandsFor (nodes : List Node) : ℕ → Document → Type 0 where
   for_reference : {k c : ℕ} → slice_get nodes k ≡ Some (Reference c) → StandsFor nodes k (reference c)
   for_element : {k x i f : ℕ} {a b : Document} → slice_get nodes k ≡ Some (Element x i f) → StandsFor nodes i a → StandsFor nodes f b → StandsFor nodes k (element x a b)
 
+-- The node with number k has a label and a row number that text can spell, and points at lower nodes.
+abbrev pub SoundAt : ℕ → Node → Type 0
+SoundAt k Void = Unit {0}
+SoundAt k (Reference c) = c < max_rows
+SoundAt k (Element x i f) = (x < label_count) × (i < k) × (f < k)
+
 -- The node with number k has a label that there is and points at lower nodes; a reference is to a row that may be referred to.
 abbrev pub SoundWith : (ℕ → Type 0) → ℕ → Node → Type 0
 SoundWith May k Void = Unit {0}
 SoundWith May k (Reference c) = May c
 SoundWith May k (Element x i f) = (x < label_count) × (i < k) × (f < k)
-
--- The same, where references are to rows whose numbers text can spell.
-abbrev pub SoundAt : ℕ → Node → Type 0
-SoundAt k m = SoundWith (λ c. c < max_rows) k m
 
 -- The table is sound over rows: its references are to channel rows.
 pub record SoundOver (rows : List Row) (nodes : List Node) : Type 0 where

@@ -1,4 +1,6 @@
 // Order documents: tables of nodes, and text.
+#![tactic(auto)]
+
 pub mod faults;
 pub mod nodes;
 pub mod reader;

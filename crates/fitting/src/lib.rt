@@ -1,4 +1,6 @@
 // Which rows each node of a document table fits.
+#![tactic(auto)]
+
 pub mod checking;
 pub mod faults;
 pub mod marking;

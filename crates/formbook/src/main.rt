@@ -1,4 +1,6 @@
 // The form book for people: tables of forms and orders, explained in words.
+#![tactic(auto)]
+
 use anyhow::anyhow;
 use std::{env, fs};
 

@@ -1,4 +1,6 @@
 // Tables of forms: rows, and the sources that give them.
+#![tactic(auto)]
+
 ghost use Rattle.std.specs.Prelude.{◌≡◌, List, length};
 ghost use Rattle.std.specs.List.{slice_get};
 ghost use Rattle.forms.specs.declared.Row.{Row};

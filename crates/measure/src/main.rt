@@ -1,4 +1,6 @@
 // Measures how long the calls of the library take. What it prints differs from run to run, so the gate runs it without a word.
+#![tactic(auto)]
+
 use book::Book;
 use book::types::Verdict;
 use documents::nodes::{MAX_DOCUMENT, MAX_NODES, Node};

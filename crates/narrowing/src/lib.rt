@@ -1,4 +1,6 @@
 // The largest set of places that a rule lets stand.
+#![tactic(auto)]
+
 ghost use Rattle.std.specs.Prelude.{◌≡◌, ℕ, Bool};
 ghost use Rattle.sets.specs.Sets.{member};
 ghost use Rattle.narrowing.specs.Narrowing.{Lawful, Narrowed, Round};
@@ -18,7 +20,7 @@ pub trait Rule {
 
 // Strikes each member that gets a no, and says whether there was one.
 fn round<R: Rule>(rule: &R, set: &mut [u64]) -> bool
-    ensures { Round (says rule.now) set.old set.new result }
+    ensures { Round (R.says rule.now) set.old set.new result }
 {
     let mut struck = false;
     let mut from = 0;
@@ -34,7 +36,7 @@ fn round<R: Rule>(rule: &R, set: &mut [u64]) -> bool
 
 // Leaves of the set its largest part each member of which gets a yes from that part.
 pub fn narrow<R: Rule>(rule: &R, set: &mut [u64])
-    ensures { Narrowed (says rule.now) (member set.old) (member set.new) }
+    ensures { Narrowed (R.says rule.now) (member set.old) (member set.new) }
 {
     while round(rule, set) {}
 }

@@ -1,4 +1,6 @@
 // What the rows of a table offer, which of them some document fits, and whether the table is admitted.
+#![tactic(auto)]
+
 ghost use Rattle.std.specs.Prelude.{◌≡◌};
 ghost use Rattle.forms.specs.Refusals.{number as refusal-number};
 ghost use Rattle.relation.specs.Faults.{admission_refusal};

@@ -1,4 +1,6 @@
 // Admission, analysis and narrowing as their users see them.
+#![tactic(auto)]
+
 #[cfg(test)]
 mod admitting;
 #[cfg(test)]

@@ -9,12 +9,12 @@ use Rattle.forms.specs.Limits.{label_count}
 use Rattle.forms.specs.Rows.{belongs}
 use Rattle.forms.specs.Schema.{Offers, Inhabited}
 use Rattle.forms.specs.Documents.{Document}
-use Rattle.schema.specs.Rules.{Bounded, Determined, OffersVoid, OffersChannel, OffersElement, ◌⊑◌, Relation, Payloads, Below, FitsBy, Fits, IsDocument, Names}
+use Rattle.schema.specs.Rules.{Bounded, Determined, OffersVoid, OffersChannel, OffersElement, ◌⊑◌, Relation, Payloads, Below, Fits, IsDocument, Names}
 use Rattle.schema.specs.Rules.Names.{receives, sends, inside, following}
 use Rattle.forms.specs.Schema.Offers.{itself, left, right}
 use Rattle.forms.specs.Schema.Inhabited.{of_void, of_channel, of_element, of_left, of_right}
 use Rattle.forms.specs.Documents.Document.{void, reference, element}
-use Rattle.schema.specs.Rules.FitsBy.{fits_void, fits_reference, fits_element}
+use Rattle.schema.specs.Rules.Fits.{fits_void, fits_reference, fits_element}
 use Rattle.schema.specs.Theorems.{Confined, Witness, BelowIsSound, BelowOrWitness, BelowIsInclusion}
 use Rattle.schema.proofs.Findings.{never}
 use Rattle.schema.proofs.Offered.{at_below, label_below}
@@ -32,8 +32,8 @@ module _ (rows : List Row) where
   offers_inhabited (left e u) h = of_left e (offers_inhabited u h)
   offers_inhabited (right e u) h = of_right e (offers_inhabited u h)
 
-  -- a row that some document fits, by whatever relation, is inhabited
-  pub fits_inhabited : {B : ℕ → ℕ → Type 0} (d : Document) {p : ℕ} → FitsBy rows B d p → Inhabited rows p
+  -- a row that some document fits is inhabited
+  pub fits_inhabited : (d : Document) {p : ℕ} → Fits rows d p → Inhabited rows p
   fits_inhabited void (fits_void v) = offers_inhabited v.1 (of_void v.2)
   fits_inhabited (reference c) (fits_reference u e b) = offers_inhabited u (of_channel e)
   fits_inhabited (element x a b) (fits_element u e m fa fb) = offers_inhabited u (of_element x e m (fits_inhabited a fa) (fits_inhabited b fb))

@@ -6,5 +6,6 @@ pub mod Order
 pub mod Inclusion
 pub mod Published
 pub mod Leaning
+pub mod Fitting
 pub mod Undetermined
 pub mod Worked

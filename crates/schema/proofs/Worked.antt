@@ -15,11 +15,10 @@ use Rattle.forms.specs.Documents.{Document}
 use Rattle.forms.specs.Documents.Document.{void, reference, element}
 use Rattle.schema.specs.Rules.{OffersVoid, OffersChannel, OffersElement, Relation, Payloads, Keeps, Below, Fits, Names, Leans, ◌⊑◌}
 use Rattle.schema.specs.Rules.◌⊑◌.{same, both}
-use Rattle.schema.specs.Rules.FitsBy.{fits_void, fits_reference, fits_element}
+use Rattle.schema.specs.Rules.Fits.{fits_void, fits_reference, fits_element}
 use Rattle.schema.specs.Rules.Names.{receives, sends, inside, following}
 use Rattle.schema.specs.Rules.Leans.{on_itself, on_named}
-use Rattle.schema.specs.Counting.{tally, Counts}
-use Rattle.schema.specs.Worked.{table, Shows, alone, Case, Holds, cases, WorkedCases}
+use Rattle.schema.specs.Worked.{table, tally, Counts, Shows, alone, Case, Holds, cases, WorkedCases}
 use Rattle.schema.proofs.Findings.{never}
 
 -- LABELS

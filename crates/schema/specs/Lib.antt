@@ -1,5 +1,5 @@
 pub mod Rules
 pub mod Theorems
 pub mod Published
-pub mod Counting
+pub mod Fitting
 pub mod Worked

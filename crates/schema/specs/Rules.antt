@@ -7,7 +7,7 @@ use Rattle.forms.specs.declared.Capability.{Capability}
 use Rattle.forms.specs.declared.Capability.TheVariants.{In, Out, Both}
 use Rattle.forms.specs.Limits.{label_count}
 use Rattle.forms.specs.Rows.{belongs, NumbersBelow, Labelled}
-use Rattle.forms.specs.Schema.{Offers, Inhabited, IsChannel}
+use Rattle.forms.specs.Schema.{Offers, Inhabited}
 use Rattle.forms.specs.Documents.{Document}
 use Rattle.forms.specs.Documents.Document.{void, reference, element}
 
@@ -67,20 +67,16 @@ Closed rows R = (p q : ℕ) → R p q ≡ true → Keeps rows R p q
 abbrev pub Below : List Row → ℕ → ℕ → Type 0
 Below rows p q = (R : Relation) × Closed rows R × (R p q ≡ true)
 
--- Void fits what offers a void row. A reference fits what offers a channel row that its own is in B with. An element fits what offers an element row with its label, where its parts fit.
-pub data FitsBy (rows : List Row) (B : ℕ → ℕ → Type 0) : Document → ℕ → Type 0 where
-  fits_void : {p : ℕ} → OffersVoid rows p → FitsBy rows B void p
-  fits_reference : {c p d s : ℕ} {k : Capability} → Offers rows p d → slice_get rows d ≡ Some (Channel k s) → B c d → FitsBy rows B (reference c) p
-  fits_element : {x : ℕ} {a b : Document} {p e l i n : ℕ} → Offers rows p e → slice_get rows e ≡ Some (Element l i n) → belongs x l ≡ true → FitsBy rows B a i → FitsBy rows B b n → FitsBy rows B (element x a b) p
-
--- A document fits a row: a reference, where its own row is below a channel row that is offered.
-abbrev pub Fits : List Row → Document → ℕ → Type 0
-Fits rows d p = FitsBy rows (Below rows) d p
+-- Void fits what offers a void row. A reference fits what offers a channel row that its own is below. An element fits what offers an element row with its label, where its parts fit.
+pub data Fits (rows : List Row) : Document → ℕ → Type 0 where
+  fits_void : {p : ℕ} → OffersVoid rows p → Fits rows void p
+  fits_reference : {c p d s : ℕ} {k : Capability} → Offers rows p d → slice_get rows d ≡ Some (Channel k s) → Below rows c d → Fits rows (reference c) p
+  fits_element : {x : ℕ} {a b : Document} {p e l i n : ℕ} → Offers rows p e → slice_get rows e ≡ Some (Element l i n) → belongs x l ≡ true → Fits rows a i → Fits rows b n → Fits rows (element x a b) p
 
 -- the references of a document are to channel rows, and its labels are labels that there are
 abbrev pub IsDocument : List Row → Document → Type 0
 IsDocument rows void = Unit {0}
-IsDocument rows (reference c) = IsChannel rows c
+IsDocument rows (reference c) = (k : Capability) × (s : ℕ) × (slice_get rows c ≡ Some (Channel k s))
 IsDocument rows (element x a b) = (x < label_count) × IsDocument rows a × IsDocument rows b
 
 -- every document that fits p fits q

@@ -1,5 +1,5 @@
 -- The worked table, and what holds of its rows. Assumes nothing.
-use Rattle.std.specs.Prelude.{◌≡◌, ℕ, ◌&&◌, List, [], ◌∷◌, length, ◌==◌}
+use Rattle.std.specs.Prelude.{◌≡◌, ℕ, zero, suc, ◌+◌, ◌*◌, ◌/◌, ◌%◌, ◌<◌, Bool, true, false, cond, ◌&&◌, ◌||◌, List, [], ◌∷◌, length, ◌==◌}
 use Rattle.std.specs.List.{AllByRecursion as All}
 use Rattle.forms.specs.declared.Row.{Row}
 use Rattle.forms.specs.declared.Row.TheVariants.{Void, Nothing, Channel, Element, Union}
@@ -7,11 +7,22 @@ use Rattle.forms.specs.declared.Capability.TheVariants.{Out, Both}
 use Rattle.forms.specs.Documents.{Document}
 use Rattle.forms.specs.Documents.Document.{void, element}
 use Rattle.schema.specs.Rules.{Relation, Keeps, Below, Fits, IsDocument, Leans}
-use Rattle.schema.specs.Counting.{Counts}
 
 -- `V,,,` / `E,0000000000000002,0,0` / `E,0000000000000006,0,0` / `C,o,1,` / `C,o,2,` / `C,b,1,` / `E,0000000000000002,0,6` / `N,,,` / `U,,0,9` / `E,0000000000000002,0,8`
 abbrev pub table : List Row
 table = Void ∷ Element 2 0 0 ∷ Element 6 0 0 ∷ Channel Out 1 ∷ Channel Out 2 ∷ Channel Both 1 ∷ Element 2 0 6 ∷ Nothing ∷ Union 0 9 ∷ Element 2 0 8 ∷ []
+
+-- how many of the first k pairs over n rows, counted row by row, are in R
+abbrev pub tally : ℕ → Relation → ℕ → ℕ
+tally n R zero = 0
+tally n R (suc k) = cond (R (k / n) (k % n)) 1 0 + tally n R k
+
+-- P holds of exactly k of the pairs over n rows.
+pub record Counts (n : ℕ) (P : ℕ → ℕ → Type 0) (k : ℕ) : Type 0 where
+  pub R : Relation
+  pub sound : (a b : ℕ) → R a b ≡ true → P a b
+  pub complete : (a b : ℕ) → P a b → R a b ≡ true
+  pub many : k ≡ tally n R (n * n)
 
 -- d shows that p is not below q: it fits p and not q
 pub record Shows (p q : ℕ) (d : Document) : Type 0 where

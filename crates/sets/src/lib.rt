@@ -1,4 +1,6 @@
 // Sets of numbers, kept as bits of 64-bit words.
+#![tactic(auto)]
+
 ghost use Rattle.std.specs.Prelude.{◌≡◌, ℕ, ◌*◌, ◌^◌, ◌<◌, ◌≤◌, min, false, not, ◌&&◌, ◌||◌, ◌⊎◌, length, if◌then◌else◌, ◌==◌, count_ones, nat_eq, nat_lt};
 ghost use Rattle.sets.specs.Sets.{word, top, member, tally, Next};
 

@@ -1,4 +1,6 @@
 // An order that fits one row of a prepared table and not another.
+#![tactic(auto)]
+
 ghost use Rattle.std.specs.Prelude.{◌+◌, ◌*◌, ◌<◌, ◌≤◌, Decides};
 ghost use Rattle.forms.specs.Buffers.{rows_of};
 ghost use Rattle.forms.specs.Limits.{max_rows};

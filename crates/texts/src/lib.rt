@@ -1,4 +1,6 @@
 // Row text: rows read from bytes, and written to bytes.
+#![tactic(auto)]
+
 ghost use Rattle.std.specs.Prelude.{◌≡◌};
 ghost use Rattle.forms.specs.Refusals.{number};
 ghost use Rattle.texts.specs.Faults.{text_refusal, rows_refusal};

@@ -1,4 +1,6 @@
 // Row text as its users see it: which rows a text means, which fault it has, what is written of rows.
+#![tactic(auto)]
+
 #[cfg(test)]
 mod reading;
 #[cfg(test)]

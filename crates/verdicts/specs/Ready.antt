@@ -3,7 +3,8 @@ use Rattle.std.specs.Prelude.{◌≡◌, ℕ, ◌<◌, Bool, true, ◌&&◌, Lis
 use Rattle.std.specs.List.{slice_get}
 use Rattle.forms.specs.Limits.{max_rows}
 use Rattle.forms.specs.Rows.{belongs}
-use Rattle.forms.specs.Schema.{Offers, Inhabited, IsChannel}
+use Rattle.forms.specs.Schema.{Offers, Inhabited}
+pub use Rattle.forms.specs.Schema.{IsChannel}
 use Rattle.forms.specs.declared.Row.{Row}
 use Rattle.forms.specs.declared.Row.TheVariants.{Void, Element}
 use Rattle.relation.specs.Admission.{Admitted}

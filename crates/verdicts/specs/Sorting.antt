@@ -15,4 +15,4 @@ of_sort rows a kind o = member a.inhabited o && kind_is kind (slice_get rows o)
 
 -- row p offers row o, which is inhabited and of that sort
 abbrev pub picked : List Row → Analysis → Kind → ℕ → ℕ → Bool
-picked rows a kind p o = (nat_lt o max_rows && cell a.offered p o) && of_sort rows a kind o
+picked rows a kind p o = (nat_lt o max_rows && cell a.offered p o) && (member a.inhabited o && kind_is kind (slice_get rows o))

@@ -4,8 +4,8 @@ use Rattle.narrowing.proofs.Rounds.{Going, going_past, going_drop}
 use Rattle.narrowing.proofs.round.Goals as goal
 use Rattle.narrowing.proofs.round.Goals.{then-not-ask, else-not-ask}
 
-pub overflow-add-from : goal.overflow-add-from
-overflow-add-from g c = let (h, k) = member_within c.loop-place.set c.in-Some.place c.in-Some.ensures.1 in omega arith
+pub overflow_add-from : goal.overflow_add-from
+overflow_add-from g c = let (h, k) = member_within c.loop-place.set c.in-Some.place c.in-Some.ensures.1 in omega arith
 
 pub loop-place-smaller : goal.loop-place-smaller
 loop-place-smaller g c =

@@ -5,8 +5,8 @@ use Rattle.sets.proofs.Counts.{count_more, count_all}
 use Rattle.sets.proofs.Tallies.{tally_le}
 use Rattle.sets.proofs.count.Goals as goal
 
-pub overflow-add-total : goal.overflow-add-total
-overflow-add-total c =
+pub overflow_add-total : goal.overflow_add-total
+overflow_add-total c =
     omega (arith, c.lower-end.ensures, c.bits-total.ensures.ones, tally_le (member c.args.words.now) (word * c.loop-i.i), ones-le word (get_or c.args.words.now c.loop-i.i 0) c.bits-total.ensures.within)
 
 pub loop-i-preserved : goal.loop-i-preserved

@@ -9,8 +9,8 @@ use Rattle.sets.proofs.join.Goals as goal
 pub loop-i-init : goal.loop-i-init
 loop-i-init c = joined_none c.args.words.now c.args.others.now
 
-pub overflow-add-total : goal.overflow-add-total
-overflow-add-total c =
+pub overflow_add-total : goal.overflow_add-total
+overflow_add-total c =
     let all = bit_or (get_or c.loop-i.words c.loop-i.i 0) (get_or c.args.others.now c.loop-i.i 0) in
     omega (arith, c.bits-total.ensures.ones, c.loop-i.invariant.count, tally_le (fresh c.args.words.now c.args.others.now) (word * c.loop-i.i), ones-le word (bit_xor all (get_or c.loop-i.words c.loop-i.i 0)) c.bits-total.ensures.within)
 

@@ -11,13 +11,13 @@ returns-then-start-ge-TOP c = λ j from. ⊎_elim
     c.then-start-ge-TOP.either
 
 pub returns-then-rest-ne0 : goal.returns-then-rest-ne0
-returns-then-rest-ne0 c = next_here c.args.words.now c.args.start (omega arith) (c.type-inv.words _).fits c.if-rest-ne0.true
+returns-then-rest-ne0 c = next_here c.args.words.now c.args.start (omega arith) (c.type_inv.words _).fits c.if-rest-ne0.true
 
 pub loop-i-init : goal.loop-i-init
 loop-i-init c = next_none c.args.words.now c.args.start (omega arith) c.if-rest-ne0.false
 
 pub returns-then-words-i-ne0 : goal.returns-then-words-i-ne0
-returns-then-words-i-ne0 c = next_there c.args.words.now c.args.start c.loop-i.i c.loop-i.invariant (omega arith) (omega arith) (c.type-inv.words c.loop-i.i).fits c.if-words-i-ne0.true _ refl
+returns-then-words-i-ne0 c = next_there c.args.words.now c.args.start c.loop-i.i c.loop-i.invariant (omega arith) (omega arith) (c.type_inv.words c.loop-i.i).fits c.if-words-i-ne0.true _ refl
 
 pub loop-i-preserved : goal.loop-i-preserved
 loop-i-preserved c = next_more c.args.words.now c.args.start c.loop-i.i c.loop-i.invariant (omega arith) c.if-words-i-ne0.false

@@ -5,6 +5,7 @@ ghost use Rattle.forms.specs.Buffers.{rows_of};
 ghost use Rattle.schema.specs.Rules.{Below, Included};
 ghost use Rattle.schema.specs.Theorems.{LargestWithin, Confined};
 ghost use Rattle.schema.specs.Published.{Subschema};
+ghost use Rattle.schema.specs.Worked.{WorkedCases};
 ghost use Rattle.verdicts.specs.Asking.{asks, asks_lawful};
 ghost use Rattle.verdicts.specs.Facts.{bounded_of};
 ghost use Rattle.verdicts.specs.Pairs.{related, all_pairs, Tells, Witnessed, Transitive};
@@ -71,6 +72,7 @@ impl Prepared {
         ensures reflexive { (p : ℕ) → p < length (rows_of self.now.table) → related (length (rows_of self.now.table)) result p p ≡ true }
         ensures transitive { Transitive (related (length (rows_of self.now.table)) result) }
         ensures rest { (k : ℕ) → length (rows_of self.now.table) * length (rows_of self.now.table) ≤ k → member result k ≡ false }
+        ensures worked { WorkedCases }
     {
         let mut pairs = self.square();
         self.narrow(&mut pairs);

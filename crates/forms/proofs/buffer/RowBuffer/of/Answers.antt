@@ -4,7 +4,7 @@ use Rattle.forms.specs.declared.Row.TheVariants.{Void}
 use Rattle.forms.proofs.Buffers.{buffer_copied_more}
 use Rattle.forms.proofs.Sides.{some_nth, row_there}
 use Rattle.forms.proofs.buffer.RowBuffer.of.Goals as goal
-use Rattle.forms.proofs.buffer.RowBuffer.of.Goals.{in-Some, in-default}
+use Rattle.forms.proofs.buffer.RowBuffer.of.Goals.{in-Some, in_default}
 
 pub loop-number-preserved : goal.loop-number-preserved
 loop-number-preserved g c =
@@ -13,7 +13,7 @@ loop-number-preserved g c =
     let lt : k < length rows = omega (arith, c.count-number-end.ensures, c.loop-number-test.true) in
     elim c.match-row.branch [
       | in-Some w ↦ buffer_copied_more rows k w.in-Some.row c.loop-number.buffer w.push.new.self _ lt (g.S.FormSource.lawful c.args.source.now).few c.loop-number.invariant (some_nth rows k w.in-Some.row w.in-Some.ensures).1 w.push.ensures.now w.buffer-is
-      | in-default w ↦ absurd (w.in-default.not-Some (get_or rows k Void) (row_there rows k c.row.result lt c.row.ensures))
+      | in_default w ↦ absurd (w.in_default.not-Some (get_or rows k Void) (row_there rows k c.row.result lt c.row.ensures))
     ]
 
 pub returns : goal.returns
