@@ -5,12 +5,12 @@ use Rattle.texts.proofs.Outcomes.{right_rows_are_written}
 use Rattle.texts.proofs.TextSteps.{read_more, read_on, read_wrong, read_over, read_all}
 use Rattle.texts.proofs.RowText.read.Goals as goal
 
-pub returns-then-text-gt-MAX-TEXT : goal.returns-then-text-gt-MAX-TEXT
-returns-then-text-gt-MAX-TEXT c = record { judged = is_long c.if-text-gt-MAX-TEXT.true; back = tt; laws = (judgement_is_one, (right_is_spelled, spelled_is_short)) }
+pub returns-then-text-gt-MAX_TEXT : goal.returns-then-text-gt-MAX_TEXT
+returns-then-text-gt-MAX_TEXT c = record { judged = is_long c.if-text-gt-MAX_TEXT.true; back = tt; laws = (judgement_is_one, (right_is_spelled, spelled_is_short)) }
 
-pub returns-then-line-eq-MAX-ROWS : goal.returns-then-line-eq-MAX-ROWS
-returns-then-line-eq-MAX-ROWS c = record {
-  judged = read_over c.args.text.now c.loop-place.place c.loop-place.line (rows_of c.loop-place.table) c.loop-place.invariant c.if-text-gt-MAX-TEXT.false c.loop-place-test.true c.if-line-eq-MAX-ROWS.true;
+pub returns-then-line-eq-MAX_ROWS : goal.returns-then-line-eq-MAX_ROWS
+returns-then-line-eq-MAX_ROWS c = record {
+  judged = read_over c.args.text.now c.loop-place.place c.loop-place.line (rows_of c.loop-place.table) c.loop-place.invariant c.if-text-gt-MAX_TEXT.false c.loop-place-test.true c.if-line-eq-MAX_ROWS.true;
   back = tt;
   laws = (judgement_is_one, (right_is_spelled, spelled_is_short));
 }
@@ -19,11 +19,11 @@ pub loop-place-smaller : goal.loop-place-smaller
 loop-place-smaller c = read_on c.args.text.now c.loop-place.place c.in-Ok.next c.in-Ok.row c.loop-place-test.true c.in-Ok.ensures.1
 
 pub loop-place-preserved : goal.loop-place-preserved
-loop-place-preserved c = read_more c.args.text.now c.loop-place.place c.in-Ok.next c.loop-place.line (rows_of c.loop-place.table) (rows_of c.push.new.self) c.in-Ok.row c.loop-place.invariant c.if-line-eq-MAX-ROWS.false c.in-Ok.ensures c.push.ensures.now
+loop-place-preserved c = read_more c.args.text.now c.loop-place.place c.in-Ok.next c.loop-place.line (rows_of c.loop-place.table) (rows_of c.push.new.self) c.in-Ok.row c.loop-place.invariant c.if-line-eq-MAX_ROWS.false c.in-Ok.ensures c.push.ensures.now
 
 pub returns-in-Err : goal.returns-in-Err
 returns-in-Err c = record {
-  judged = read_wrong c.args.text.now c.loop-place.place c.loop-place.line c.in-Err.field (rows_of c.loop-place.table) c.loop-place.invariant c.if-text-gt-MAX-TEXT.false c.loop-place-test.true c.if-line-eq-MAX-ROWS.false c.in-Err.ensures;
+  judged = read_wrong c.args.text.now c.loop-place.place c.loop-place.line c.in-Err.field (rows_of c.loop-place.table) c.loop-place.invariant c.if-text-gt-MAX_TEXT.false c.loop-place-test.true c.if-line-eq-MAX_ROWS.false c.in-Err.ensures;
   back = tt;
   laws = (judgement_is_one, (right_is_spelled, spelled_is_short));
 }

@@ -5,30 +5,30 @@ use Rattle.texts.specs.declared.kinds.Kind.TheVariants.{Void as void, Nothing as
 use Rattle.texts.proofs.LineSteps.{kind_wrong, whole_line, line_fields, line_blanks}
 use Rattle.texts.proofs.lines.line.Goals as goal
 
-pub returns-in-err-kind : goal.returns-in-err-kind
-returns-in-err-kind c = let p = err_from_is_err_and c.from-residual.result c.from-residual.ensures.1 in rw (p.1, p.2) (kind_wrong (drop c.args.start c.args.text.now) c.in-err-kind.field-0.0 c.in-err-kind.ensures)
+pub returns-in_err-kind : goal.returns-in_err-kind
+returns-in_err-kind c = let p = err_from_is_err_and c.from_residual.result c.from_residual.ensures.1 in rw (p.1, p.2) (kind_wrong (drop c.args.start c.args.text.now) c.in_err-kind.field-0.0 c.in_err-kind.ensures)
 
-pub returns-in-err-blanks : goal.returns-in-err-blanks
-returns-in-err-blanks c = let p = err_from_is_err_and c.from-residual-in-err-blanks.result c.from-residual-in-err-blanks.ensures.1 in rw (p.1, p.2) (line_blanks c.args.text.now c.args.start c.in-ok-kind.first c.in-ok-kind.kind void c.in-Void.is c.in-ok-kind.ensures refl c.in-err-blanks.field-0.0 c.in-err-blanks.ensures)
+pub returns-in_err-blanks-in-Void : goal.returns-in_err-blanks-in-Void
+returns-in_err-blanks-in-Void c = let p = err_from_is_err_and c.from_residual-in_err-blanks-in-Void.result c.from_residual-in_err-blanks-in-Void.ensures.1 in rw (p.1, p.2) (line_blanks c.args.text.now c.args.start c.in_ok-kind.first c.in_ok-kind.kind void c.in-Void.is c.in_ok-kind.ensures refl c.in_err-blanks-in-Void.field-0.0 c.in_err-blanks-in-Void.ensures)
 
-pub returns-in-ok-blanks : goal.returns-in-ok-blanks
-returns-in-ok-blanks c =
-    let (e, stop) = c.in-ok-kind.ensures in
-    ((tt, tt), whole_line Void c.in-ok-kind.kind (drop c.args.start c.args.text.now) (drop c.in-ok-kind.first c.args.text.now) (drop c.in-ok-blanks.field-0 c.args.text.now) e stop (sym c.in-Void.is) c.in-ok-blanks.ensures)
+pub returns-in_ok-blanks-in-Void : goal.returns-in_ok-blanks-in-Void
+returns-in_ok-blanks-in-Void c =
+    let (e, stop) = c.in_ok-kind.ensures in
+    ((tt, tt), whole_line Void c.in_ok-kind.kind (drop c.args.start c.args.text.now) (drop c.in_ok-kind.first c.args.text.now) (drop c.in_ok-blanks-in-Void.field-0 c.args.text.now) e stop (sym c.in-Void.is) c.in_ok-blanks-in-Void.ensures)
 
-pub returns-in-err-blanks-2 : goal.returns-in-err-blanks-2
-returns-in-err-blanks-2 c = let p = err_from_is_err_and c.from-residual-in-err-blanks-2.result c.from-residual-in-err-blanks-2.ensures.1 in rw (p.1, p.2) (line_blanks c.args.text.now c.args.start c.in-ok-kind.first c.in-ok-kind.kind nothing c.in-Nothing.is c.in-ok-kind.ensures refl c.in-err-blanks-2.field-0.0 c.in-err-blanks-2.ensures)
+pub returns-in_err-blanks-in-Nothing : goal.returns-in_err-blanks-in-Nothing
+returns-in_err-blanks-in-Nothing c = let p = err_from_is_err_and c.from_residual-in_err-blanks-in-Nothing.result c.from_residual-in_err-blanks-in-Nothing.ensures.1 in rw (p.1, p.2) (line_blanks c.args.text.now c.args.start c.in_ok-kind.first c.in_ok-kind.kind nothing c.in-Nothing.is c.in_ok-kind.ensures refl c.in_err-blanks-in-Nothing.field-0.0 c.in_err-blanks-in-Nothing.ensures)
 
-pub returns-in-ok-blanks-2 : goal.returns-in-ok-blanks-2
-returns-in-ok-blanks-2 c =
-    let (e, stop) = c.in-ok-kind.ensures in
-    ((tt, tt), whole_line Nothing c.in-ok-kind.kind (drop c.args.start c.args.text.now) (drop c.in-ok-kind.first c.args.text.now) (drop c.in-ok-blanks-2.field-0 c.args.text.now) e stop (sym c.in-Nothing.is) c.in-ok-blanks-2.ensures)
+pub returns-in_ok-blanks-in-Nothing : goal.returns-in_ok-blanks-in-Nothing
+returns-in_ok-blanks-in-Nothing c =
+    let (e, stop) = c.in_ok-kind.ensures in
+    ((tt, tt), whole_line Nothing c.in_ok-kind.kind (drop c.args.start c.args.text.now) (drop c.in_ok-kind.first c.args.text.now) (drop c.in_ok-blanks-in-Nothing.field-0 c.args.text.now) e stop (sym c.in-Nothing.is) c.in_ok-blanks-in-Nothing.ensures)
 
 pub returns-in-Channel : goal.returns-in-Channel
-returns-in-Channel c = line_fields c.args.text.now c.args.start c.in-ok-kind.first c.in-ok-kind.kind channel c.in-Channel.is c.in-ok-kind.ensures c.channel-fields.result c.channel-fields.ensures
+returns-in-Channel c = line_fields c.args.text.now c.args.start c.in_ok-kind.first c.in_ok-kind.kind channel c.in-Channel.is c.in_ok-kind.ensures c.channel_fields.result c.channel_fields.ensures
 
 pub returns-in-Element : goal.returns-in-Element
-returns-in-Element c = line_fields c.args.text.now c.args.start c.in-ok-kind.first c.in-ok-kind.kind element c.in-Element.is c.in-ok-kind.ensures c.element-fields.result c.element-fields.ensures
+returns-in-Element c = line_fields c.args.text.now c.args.start c.in_ok-kind.first c.in_ok-kind.kind element c.in-Element.is c.in_ok-kind.ensures c.element_fields.result c.element_fields.ensures
 
 pub returns-in-Union : goal.returns-in-Union
-returns-in-Union c = line_fields c.args.text.now c.args.start c.in-ok-kind.first c.in-ok-kind.kind union c.in-Union.is c.in-ok-kind.ensures c.union-fields.result c.union-fields.ensures
+returns-in-Union c = line_fields c.args.text.now c.args.start c.in_ok-kind.first c.in_ok-kind.kind union c.in-Union.is c.in_ok-kind.ensures c.union_fields.result c.union_fields.ensures

@@ -4,7 +4,7 @@ use Rattle.texts.proofs.Measures.{rows_more, rows_all}
 use Rattle.texts.proofs.writing.write.Goals as goal
 
 pub loop-row-preserved : goal.loop-row-preserved
-loop-row-preserved c = rows_more c.args.rows.now c.loop-row.row-index c.loop-row.place c.put-row-place.result (get_or c.args.rows.now c.loop-row.row-index Void) c.args.out.now c.loop-row.out c.put-row-place.new.out c.loop-row-test.true refl c.loop-row.invariant c.put-row-place.ensures
+loop-row-preserved c = rows_more c.args.rows.now c.loop-row.row-index c.loop-row.place c.put_row-place.result (get_or c.args.rows.now c.loop-row.row-index Void) c.args.out.now c.loop-row.out c.put_row-place.new.out c.loop-row-test.true refl c.loop-row.invariant c.put_row-place.ensures
 
 pub returns : goal.returns
 returns c = rows_all c.args.rows.now c.loop-row.row-index c.loop-row.place c.args.out.now c.loop-row.out c.loop-row-test.false c.loop-row.invariant
