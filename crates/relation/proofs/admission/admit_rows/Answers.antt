@@ -10,7 +10,7 @@ pub returns-in-Some : goal.returns-in-Some
 returns-in-Some c = number_outside c.in-Some.ensures
 
 pub returns-in-Some-sharing : goal.returns-in-Some-sharing
-returns-in-Some-sharing c = label_twice c.in-default.ensures c.in-Some-sharing.ensures
+returns-in-Some-sharing c = label_twice c.in_default.ensures c.in-Some-sharing.ensures
 
 pub returns-in-None : goal.returns-in-None
-returns-in-None c = (record { some = omega arith; within = all_inside c.args.rows.now c.in-default.ensures; determined = c.in-None.ensures }, c.analyze-rows-analysis.ensures)
+returns-in-None c = (record { some = omega arith; within = all_inside c.args.rows.now c.in_default.ensures; determined = c.in-None.ensures }, c.analyze_rows-analysis.ensures)

@@ -17,4 +17,4 @@ returns-then-counts c =
     gives_labels rows p o (get_or rows o Void) (slice_get-get_or rows o Void c.requires.second)
     ((c.requires.analyzed.offers p o (omega arith) (omega arith)).0 offered)
     ((c.requires.analyzed.inhabited o).0 inhabited)
-    c.element-labels.result c.element-labels.ensures
+    c.element_labels.result c.element_labels.ensures

@@ -6,12 +6,12 @@ use Rattle.relation.proofs.admission.shares.Goals as goal
 
 pub returns-then-meets : goal.returns-then-meets
 returns-then-meets c = (
-  λ _. seen_twice c.args.rows.now c.args.p c.loop-o.seen c.loop-o.o c.given-labels-labels.result c.loop-o.invariant c.given-labels-labels.ensures (c.meets.ensures.0 c.if-meets.true),
+  λ _. seen_twice c.args.rows.now c.args.p c.loop-o.seen c.loop-o.o c.given_labels-labels.result c.loop-o.invariant c.given_labels-labels.ensures (c.meets.ensures.0 c.if-meets.true),
   λ _. refl,
 )
 
 pub loop-o-preserved : goal.loop-o-preserved
-loop-o-preserved c = seen_more c.args.rows.now c.args.p c.loop-o.seen c.loop-o.o c.given-labels-labels.result c.loop-o.invariant c.given-labels-labels.ensures (not_from_Decides c.meets.result c.meets.ensures c.if-meets.false)
+loop-o-preserved c = seen_more c.args.rows.now c.args.p c.loop-o.seen c.loop-o.o c.given_labels-labels.result c.loop-o.invariant c.given_labels-labels.ensures (not_from_Decides c.meets.result c.meets.ensures c.if-meets.false)
 
 pub returns : goal.returns
 returns c = (

@@ -16,7 +16,7 @@ loop-i-preserved c =
     ]
 
 pub returns-after-loop-i : goal.returns-after-loop-i
-returns-after-loop-i c = adding_all c.args.p c.args.k c.args.cells.now c.requires.room c.requires.within c.if-k-lt-MAX-ROWS.true c.loop-i.cells c.loop-i.grown c.loop-i.i (omega arith) c.loop-i.invariant
+returns-after-loop-i c = adding_all c.args.p c.args.k c.args.cells.now c.requires.room c.requires.within c.if-k-lt-MAX_ROWS.true c.loop-i.cells c.loop-i.grown c.loop-i.i (omega arith) c.loop-i.invariant
 
-pub returns-else-k-lt-MAX-ROWS : goal.returns-else-k-lt-MAX-ROWS
-returns-else-k-lt-MAX-ROWS c = adding_past_table c.args.p c.args.k c.args.cells.now c.requires.room c.requires.within c.if-k-lt-MAX-ROWS.false
+pub returns-else-k-lt-MAX_ROWS : goal.returns-else-k-lt-MAX_ROWS
+returns-else-k-lt-MAX_ROWS c = adding_past_table c.args.p c.args.k c.args.cells.now c.requires.room c.requires.within c.if-k-lt-MAX_ROWS.false

@@ -7,7 +7,7 @@ use Rattle.relation.proofs.offering.gains.Goals as goal
 
 pub returns : goal.returns
 returns c =
-    let own = c.args.own_val in
+    let own = c.args.own in
     let other = c.args.other in
     record {
       gained = λ e.

@@ -10,9 +10,9 @@ loop-p-preserved c =
     let rows = c.args.rows.now in
     let p = c.loop-p.p in
     let row = get_or rows p Void in
-    let mid = c.add-row-first.new.cells in
-    let end = c.add-row-second.new.cells in
+    let mid = c.add_row-first.new.cells in
+    let end = c.add_row-second.new.cells in
     spreading_more rows c.args.cells.now c.requires.room c.loop-p.cells c.loop-p.grown p c.loop-p.invariant row (slice_get-get_or rows p Void c.loop-p-test.true)
-    mid end c.add-row-first.result c.add-row-second.result c.add-row-first.auto.cells c.add-row-second.auto.cells
-    (subst (λ k. RowAdded p k c.loop-p.cells mid c.add-row-first.result) (ap (λ (t : ℕ × ℕ). t.0) c.sides-left.ensures) c.add-row-first.ensures)
-    (subst (λ k. RowAdded p k mid end c.add-row-second.result) (ap (λ (t : ℕ × ℕ). t.1) c.sides-left.ensures) c.add-row-second.ensures)
+    mid end c.add_row-first.result c.add_row-second.result c.add_row-first.auto.cells c.add_row-second.auto.cells
+    (subst (λ k. RowAdded p k c.loop-p.cells mid c.add_row-first.result) (ap (λ (t : ℕ × ℕ). t.0) c.sides-left.ensures) c.add_row-first.ensures)
+    (subst (λ k. RowAdded p k mid end c.add_row-second.result) (ap (λ (t : ℕ × ℕ). t.1) c.sides-left.ensures) c.add_row-second.ensures)

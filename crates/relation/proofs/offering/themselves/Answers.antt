@@ -6,7 +6,7 @@ use Rattle.forms.specs.Limits.{max_rows}
 use Rattle.forms.specs.declared.Row.TheVariants.{Void}
 use Rattle.relation.proofs.Reaching.{Leafing, leafing_none, leafing_past, leafing_more, leafing_all}
 use Rattle.relation.proofs.offering.themselves.Goals as goal
-use Rattle.relation.proofs.offering.themselves.Goals.{then-is-leaf, else-is-leaf}
+use Rattle.relation.proofs.offering.themselves.Goals.{then-is_leaf, else-is_leaf}
 
 pub loop-p-init : goal.loop-p-init
 loop-p-init c = leafing_none c.args.rows.now (max_rows * (max_rows / word)) refl
@@ -17,11 +17,11 @@ loop-p-preserved c =
     let p = c.loop-p.p in
     let row = get_or rows p Void in
     let is = slice_get-get_or rows p Void c.loop-p-test.true in
-    elim c.if-is-leaf.branch [
-      | then-is-leaf w ↦ subst (λ ws. Leafing rows ws (p + 1)) (sym w.cells-is)
-          (leafing_more rows c.loop-p.cells p (omega arith) c.loop-p.invariant row is (c.is-leaf.ensures.0 w.if-is-leaf.true) w.put.new.words w.put.auto.words w.put.ensures.within)
-      | else-is-leaf w ↦ subst (λ ws. Leafing rows ws (p + 1)) (sym w.cells-is)
-          (leafing_past rows c.loop-p.cells p (omega arith) c.loop-p.invariant row is (λ nu. both_ways c.is-leaf.result w.if-is-leaf.false (c.is-leaf.ensures.1 nu)))
+    elim c.if-is_leaf.branch [
+      | then-is_leaf w ↦ subst (λ ws. Leafing rows ws (p + 1)) (sym w.cells-is)
+          (leafing_more rows c.loop-p.cells p (omega arith) c.loop-p.invariant row is (c.is_leaf.ensures.0 w.if-is_leaf.true) w.put.new.words w.put.auto.words w.put.ensures.within)
+      | else-is_leaf w ↦ subst (λ ws. Leafing rows ws (p + 1)) (sym w.cells-is)
+          (leafing_past rows c.loop-p.cells p (omega arith) c.loop-p.invariant row is (λ nu. both_ways c.is_leaf.result w.if-is_leaf.false (c.is_leaf.ensures.1 nu)))
     ]
 
 pub returns : goal.returns

@@ -13,4 +13,4 @@ returns-then-place-self c =
 pub returns : goal.returns
 returns c =
     let rows = c.args.self.now.rows.now in
-    c.is-barren.ensures ∙ sym (ap (barren_at (length rows) (member c.args.set.now)) (slice_get-get_or rows c.args.place Void c.if-place-self.false))
+    c.is_barren.ensures ∙ sym (ap (barren_at (length rows) (member c.args.set.now)) (slice_get-get_or rows c.args.place Void c.if-place-self.false))
