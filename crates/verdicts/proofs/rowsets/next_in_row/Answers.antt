@@ -7,8 +7,8 @@ use Rattle.verdicts.proofs.rowsets.next_in_row.Goals as goal
 pub returns-then-start-cells : goal.returns-then-start-cells
 returns-then-start-cells c = λ j from. in_row_none c.args.cells.now c.args.p (max_rows / word) j refl (omega arith)
 
-pub overflow-cast-result : goal.overflow-cast-result
-overflow-cast-result c =
+pub overflow_cast-result : goal.overflow_cast-result
+overflow_cast-result c =
     let p = c.args.p in
     let low = part_small c.args.cells.now p (max_rows / word) (p * 1) (p * 1 + 1) refl refl refl (omega arith) (omega arith) c.in-Some.k c.in-Some.ensures.1 in
     omega arith

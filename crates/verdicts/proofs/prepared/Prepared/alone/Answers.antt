@@ -15,5 +15,5 @@ returns-in-Some c =
     let low = c.in-Some.ensures.small c.in-Some.k refl in
     alone_put (place_of (length (rows_of c.args.self.now.table)) (Some c.args.pair)) words c.in-Some.k c.put.new.words (sym c.in-Some.ensures.is) (c.put.ensures.within (omega arith) (omega arith))
 
-pub returns-in-default : goal.returns-in-default
-returns-in-default c = alone_none (place_of (length (rows_of c.args.self.now.table)) (Some c.args.pair)) words (λ e. both_ways _ (ap is_some (sym c.in-default.ensures.is)) e)
+pub returns-in_default : goal.returns-in_default
+returns-in_default c = alone_none (place_of (length (rows_of c.args.self.now.table)) (Some c.args.pair)) words (λ e. both_ways _ (ap is_some (sym c.in_default.ensures.is)) e)

@@ -8,4 +8,4 @@ use Rattle.verdicts.proofs.prepared.Prepared.labels.Goals as goal
 pub returns : goal.returns
 returns c =
     let t = c.args.self.now in
-    λ x. subst (λ (w : ℕ). Decides (belongs x w) (LabelledBy (rows_of t.table) c.args.p x)) (sym c.labels-at.ensures) (labels_tell t c.args.p x)
+    λ x. subst (λ (w : ℕ). Decides (belongs x w) (LabelledBy (rows_of t.table) c.args.p x)) (sym c.labels_at.ensures) (labels_tell t c.args.p x)

@@ -7,10 +7,10 @@ pub returns : goal.returns
 returns c =
     let t = c.args.self.now in
     let rows = rows_of t.table in
-    let made = c.leaned-from.ensures in
+    let made = c.leaned_from.ensures in
     record {
-      leans = alone_leans rows c.args.pair.0 c.args.pair.1 c.alone.result c.alone.ensures c.leaned-from.result made.leans;
+      leans = alone_leans rows c.args.pair.0 c.args.pair.1 c.alone.result c.alone.ensures c.leaned_from.result made.leans;
       confined = made.confined;
-      outside = alone_outside rows c.args.pair.0 c.args.pair.1 c.alone.result c.alone.ensures c.leaned-from.result made.leans (admitted_of t).some made.rest;
+      outside = alone_outside rows c.args.pair.0 c.args.pair.1 c.alone.result c.alone.ensures c.leaned_from.result made.leans (admitted_of t).some made.rest;
       rest = made.rest;
     }

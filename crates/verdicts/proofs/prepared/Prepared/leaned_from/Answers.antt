@@ -18,22 +18,22 @@ some_rows t n e = subst (λ m. 0 < m) (sym e) (admitted_of t).some
 few_rows : (t : Prepared) (n : ℕ) → n ≡ length (rows_of t.table) → n ≤ max_rows
 few_rows t n e = subst (λ m. m ≤ max_rows) (sym e) (buffer_laws t.table).few
 
-pub nonzero-div-k : goal.nonzero-div-k
-nonzero-div-k c = some_rows c.args.self.now c.count-n.result c.count-n.ensures
+pub nonzero_div-k : goal.nonzero_div-k
+nonzero_div-k c = some_rows c.args.self.now c.count-n.result c.count-n.ensures
 
-pub nonzero-rem-k : goal.nonzero-rem-k
-nonzero-rem-k c = some_rows c.args.self.now c.count-n.result c.count-n.ensures
+pub nonzero_rem-k : goal.nonzero_rem-k
+nonzero_rem-k c = some_rows c.args.self.now c.count-n.result c.count-n.ensures
 
-pub overflow-cast-k : goal.overflow-cast-k
-overflow-cast-k c =
+pub overflow_cast-k : goal.overflow_cast-k
+overflow_cast-k c =
     let t = c.args.self.now in
     let n = c.count-n.result in
     let few = few_rows t n c.count-n.ensures in
     let low = div_below c.in-Some.k n n (some_rows t n c.count-n.ensures) (subst (λ m. c.in-Some.k < m * m) (sym c.count-n.ensures) c.in-Some.ensures.0) in
     omega arith
 
-pub overflow-cast-k-in-Some : goal.overflow-cast-k-in-Some
-overflow-cast-k-in-Some c =
+pub overflow_cast-k-in-Some : goal.overflow_cast-k-in-Some
+overflow_cast-k-in-Some c =
     let t = c.args.self.now in
     let n = c.count-n.result in
     let few = few_rows t n c.count-n.ensures in
@@ -51,14 +51,14 @@ loop-k-init c =
       parted = noted_none (rows_of t.table) t.elements (max_rows * max_rows / word) _ _;
     }
 
-pub slice-bounds-name-pair-end-in-Some-2 : goal.slice-bounds-name-pair-end-in-Some-2
-slice-bounds-name-pair-end-in-Some-2 c = let r = c.loop-k.invariant.room_links in omega arith
+pub slice_bounds-name_pair-end-in-Some-2 : goal.slice_bounds-name_pair-end-in-Some-2
+slice_bounds-name_pair-end-in-Some-2 c = let r = c.loop-k.invariant.room_links in omega arith
 
-pub slice-bounds-name-pair-end-in-Some-3 : goal.slice-bounds-name-pair-end-in-Some-3
-slice-bounds-name-pair-end-in-Some-3 c = let r = c.loop-k.invariant.room_parts in omega arith
+pub slice_bounds-name_pair-end-in-Some-3 : goal.slice_bounds-name_pair-end-in-Some-3
+slice_bounds-name_pair-end-in-Some-3 c = let r = c.loop-k.invariant.room_parts in omega arith
 
-pub name-pair-requires : goal.name-pair-requires
-name-pair-requires c =
+pub name_pair-requires : goal.name_pair-requires
+name_pair-requires c =
     let t = c.args.self.now in
     let rows = rows_of t.table in
     let n = c.count-n.result in
@@ -82,9 +82,9 @@ pub loop-k-smaller : goal.loop-k-smaller
 loop-k-smaller c =
     let rows = rows_of c.args.self.now.table in
     let k = c.in-Some.k in
-    leaning_less rows c.args.starts c.loop-k.done c.loop-k.pending c.put.new.words c.remove.new.words c.name-pair.new.pending k c.loop-k.invariant.leaning c.in-Some.ensures.0 c.in-Some.ensures.1
-    c.put.auto.words c.remove.auto.words c.name-pair.auto.pending c.remove.ensures c.put.ensures.within
-    (subst (λ m. Pended (NamedFor rows (k / m) (k % m)) c.put.new.words c.remove.new.words c.name-pair.new.pending) c.count-n.ensures c.name-pair.ensures.pended)
+    leaning_less rows c.args.starts c.loop-k.done c.loop-k.pending c.put.new.words c.remove.new.words c.name_pair.new.pending k c.loop-k.invariant.leaning c.in-Some.ensures.0 c.in-Some.ensures.1
+    c.put.auto.words c.remove.auto.words c.name_pair.auto.pending c.remove.ensures c.put.ensures.within
+    (subst (λ m. Pended (NamedFor rows (k / m) (k % m)) c.put.new.words c.remove.new.words c.name_pair.new.pending) c.count-n.ensures c.name_pair.ensures.pended)
     (max_rows * max_rows) refl
 
 pub loop-k-preserved : goal.loop-k-preserved
@@ -92,20 +92,20 @@ loop-k-preserved c =
     let rows = rows_of c.args.self.now.table in
     let k = c.in-Some.k in
     record {
-      leaning = leaning_more rows c.args.starts c.loop-k.done c.loop-k.pending c.put.new.words c.remove.new.words c.name-pair.new.pending k c.loop-k.invariant.leaning c.in-Some.ensures.0 c.in-Some.ensures.1
-          c.put.auto.words c.remove.auto.words c.name-pair.auto.pending c.remove.ensures c.put.ensures.within
-          (subst (λ m. Pended (NamedFor rows (k / m) (k % m)) c.put.new.words c.remove.new.words c.name-pair.new.pending) c.count-n.ensures c.name-pair.ensures.pended);
-      room_links = let r = c.loop-k.invariant.room_links in let e = c.name-pair.auto.links in omega arith;
-      room_parts = let r = c.loop-k.invariant.room_parts in let e = c.name-pair.auto.parts in omega arith;
-      linked = c.name-pair.ensures.noted.0;
-      parted = c.name-pair.ensures.noted.1;
+      leaning = leaning_more rows c.args.starts c.loop-k.done c.loop-k.pending c.put.new.words c.remove.new.words c.name_pair.new.pending k c.loop-k.invariant.leaning c.in-Some.ensures.0 c.in-Some.ensures.1
+          c.put.auto.words c.remove.auto.words c.name_pair.auto.pending c.remove.ensures c.put.ensures.within
+          (subst (λ m. Pended (NamedFor rows (k / m) (k % m)) c.put.new.words c.remove.new.words c.name_pair.new.pending) c.count-n.ensures c.name_pair.ensures.pended);
+      room_links = let r = c.loop-k.invariant.room_links in let e = c.name_pair.auto.links in omega arith;
+      room_parts = let r = c.loop-k.invariant.room_parts in let e = c.name_pair.auto.parts in omega arith;
+      linked = c.name_pair.ensures.noted.0;
+      parted = c.name_pair.ensures.noted.1;
     }
 
 pub returns : goal.returns
 returns c =
     let t = c.args.self.now in
     let rows = rows_of t.table in
-    let none = c.in-default.ensures in
+    let none = c.in_default.ensures in
     record {
       leans = leans_decided rows c.args.starts (bounded_of t) c.loop-k.done c.loop-k.pending c.loop-k.invariant.leaning none;
       confined = leans_confined rows c.args.starts (bounded_of t) c.loop-k.done c.loop-k.pending c.loop-k.invariant.leaning none;

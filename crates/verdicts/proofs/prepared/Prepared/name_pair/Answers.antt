@@ -11,9 +11,9 @@ returns c =
     let q = c.args.pair.1 in
     let done = c.args.done.now in
     record {
-      pended = pended_same (is_named t p q) (named_is t p q) (pended_then c.name-sets.ensures.pended c.name-sets-2.ensures.pended);
+      pended = pended_same (is_named t p q) (named_is t p q) (pended_then c.name_sets.ensures.pended c.name_sets-2.ensures.pended);
       noted = (
-        noted_more rows t.channels c.name-sets.new.met done c.name-sets.new.pending c.name-sets-2.new.pending c.name-sets-2.ensures.pended.more c.name-sets.ensures.noted,
-        c.name-sets-2.ensures.noted,
+        noted_more rows t.channels c.name_sets.new.met done c.name_sets.new.pending c.name_sets-2.new.pending c.name_sets-2.ensures.pended.more c.name_sets.ensures.noted,
+        c.name_sets-2.ensures.noted,
       );
     }

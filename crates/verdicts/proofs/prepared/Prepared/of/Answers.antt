@@ -7,20 +7,20 @@ use Rattle.schema.proofs.Undetermined.{reflexive_needs_determined}
 use Rattle.verdicts.proofs.Preparing.{made_ready}
 use Rattle.verdicts.proofs.prepared.Prepared.of.Goals as goal
 
-pub invariant-of-result : goal.invariant-of-result
-invariant-of-result g c =
+pub invariant_of-result : goal.invariant_of-result
+invariant_of-result g c =
     let table = c.of-table.result in
-    let a = c.in-ok-analysis.analysis in
-    let (admitted, analyzed) = c.in-ok-analysis.ensures.judged in
-    let same = sym c.of-table.ensures in (
-      ∣ made_ready (rows_of table) (buffer_laws table).few a (subst (λ rs. Analyzed rs a) same analyzed) (subst Admitted same admitted)
-          c.gather-voids.result c.gather-channels.result c.gather-elements.result c.gather-labels-labels.result
-          c.gather-voids.ensures c.gather-channels.ensures c.gather-elements.ensures c.gather-labels-labels.ensures ∣₁,
-      tt,
-    )
+    let a = c.in_ok-analysis.analysis in
+    let (admitted, analyzed) = c.in_ok-analysis.ensures.judged in
+    let same = sym c.of-table.ensures in
+    record {
+      ready = ∣ made_ready (rows_of table) (buffer_laws table).few a (subst (λ rs. Analyzed rs a) same analyzed) (subst Admitted same admitted)
+          c.gather-voids.result c.gather-channels.result c.gather-elements.result c.gather_labels-labels.result
+          c.gather-voids.ensures c.gather-channels.ensures c.gather-elements.ensures c.gather_labels-labels.ensures ∣₁;
+    }
 
-pub returns-in-err-analysis : goal.returns-in-err-analysis
-returns-in-err-analysis g c = record { prepared = search rules; needed = reflexive_needs_determined }
+pub returns-in_err-analysis : goal.returns-in_err-analysis
+returns-in_err-analysis g c = record { prepared = search rules; needed = reflexive_needs_determined }
 
 pub returns : goal.returns
 returns g c = record { prepared = search rules; needed = reflexive_needs_determined }

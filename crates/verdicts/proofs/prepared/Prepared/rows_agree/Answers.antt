@@ -13,4 +13,4 @@ loop-e-preserved c =
     let rows = rows_of t.table in
     let P : ℕ → Type 0 = λ o. (f : ℕ) → in_row t.elements c.args.q f ≡ true → agrees (related (length rows) c.args.pairs.now) (slice_get rows o) (slice_get rows f) ≡ true in
     passed_more (in_row t.elements c.args.p) P c.loop-e.from c.in-Some.e c.in-Some.ensures c.loop-e.invariant
-    (c.element-agrees.ensures.0 c.if-not-element-agrees.false)
+    (c.element_agrees.ensures.0 c.if-not-element_agrees.false)

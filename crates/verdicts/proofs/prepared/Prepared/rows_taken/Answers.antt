@@ -7,10 +7,10 @@ use Rattle.verdicts.specs.Tests.{RowTaken}
 use Rattle.verdicts.proofs.Walks.{passed_more, passed_all}
 use Rattle.verdicts.proofs.prepared.Prepared.rows_taken.Goals as goal
 
-pub returns-then-not-row-taken : goal.returns-then-not-row-taken
-returns-then-not-row-taken c = (
+pub returns-then-not-row_taken : goal.returns-then-not-row_taken
+returns-then-not-row_taken c = (
   λ e. absurd (both_ways false refl e),
-  λ all. absurd (both_ways c.row-taken.result c.if-not-row-taken.true (c.row-taken.ensures.1 (all c.in-Some.c c.in-Some.ensures.1))),
+  λ all. absurd (both_ways c.row_taken.result c.if-not-row_taken.true (c.row_taken.ensures.1 (all c.in-Some.c c.in-Some.ensures.1))),
 )
 
 pub loop-c-preserved : goal.loop-c-preserved
@@ -18,11 +18,11 @@ loop-c-preserved c =
     let t = c.args.self.now in
     let rows = rows_of t.table in
     let P : ℕ → Type 0 = λ o. RowTaken rows (related (length rows) c.args.pairs.now) (in_row t.channels c.args.q) o in
-    passed_more (in_row t.channels c.args.p) P c.loop-c.from c.in-Some.c c.in-Some.ensures c.loop-c.invariant (c.row-taken.ensures.0 c.if-not-row-taken.false)
+    passed_more (in_row t.channels c.args.p) P c.loop-c.from c.in-Some.c c.in-Some.ensures c.loop-c.invariant (c.row_taken.ensures.0 c.if-not-row_taken.false)
 
 pub returns : goal.returns
 returns c =
     let t = c.args.self.now in
     let rows = rows_of t.table in
     let P : ℕ → Type 0 = λ o. RowTaken rows (related (length rows) c.args.pairs.now) (in_row t.channels c.args.q) o in
-    (λ _. passed_all (in_row t.channels c.args.p) P c.loop-c.from c.in-default.ensures c.loop-c.invariant, λ _. refl)
+    (λ _. passed_all (in_row t.channels c.args.p) P c.loop-c.from c.in_default.ensures c.loop-c.invariant, λ _. refl)

@@ -7,4 +7,4 @@ use Rattle.verdicts.proofs.prepared.Prepared.takes_channel.Goals as goal
 pub returns : goal.returns
 returns c =
     let t = c.args.self.now in
-    channel_tells t (related (length (rows_of t.table)) c.args.pairs.now) c.args.c c.args.q c.row-taken.result c.row-taken.ensures
+    channel_tells t (related (length (rows_of t.table)) c.args.pairs.now) c.args.c c.args.q c.row_taken.result c.row_taken.ensures

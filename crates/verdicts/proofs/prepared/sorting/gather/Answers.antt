@@ -4,5 +4,5 @@ use Rattle.verdicts.proofs.prepared.sorting.gather.Goals as goal
 
 pub returns : goal.returns
 returns c =
-    picked_among (rows_of c.args.table.now) c.args.analysis.now c.args.kind c.offered.result.now c.rows-of-sort-rows.result c.among.result
-    c.offered.ensures c.rows-of-sort-rows.ensures c.among.ensures
+    picked_among (rows_of c.args.table.now) c.args.analysis.now c.args.kind c.offered.result.now c.rows_of_sort-rows.result c.among.result
+    c.offered.ensures c.rows_of_sort-rows.ensures c.among.ensures

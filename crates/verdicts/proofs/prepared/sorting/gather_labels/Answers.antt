@@ -9,7 +9,7 @@ pub loop-p-init : goal.loop-p-init
 loop-p-init c = listed_none max_rows (λ p v. Labelling (rows_of c.args.table.now) (in_row c.args.elements.now p) v)
 
 pub loop-p-preserved : goal.loop-p-preserved
-loop-p-preserved c = listed_more max_rows (λ p v. Labelling (rows_of c.args.table.now) (in_row c.args.elements.now p) v) c.loop-p.labels c.loop-p.p c.labels-in-row.result (omega arith) c.loop-p.invariant c.labels-in-row.ensures
+loop-p-preserved c = listed_more max_rows (λ p v. Labelling (rows_of c.args.table.now) (in_row c.args.elements.now p) v) c.loop-p.labels c.loop-p.p c.labels_in_row.result (omega arith) c.loop-p.invariant c.labels_in_row.ensures
 
 pub returns : goal.returns
 returns c = λ p h. c.loop-p.invariant.so_far p (omega arith)

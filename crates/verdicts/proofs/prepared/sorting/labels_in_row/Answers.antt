@@ -12,7 +12,7 @@ pub loop-o-smaller : goal.loop-o-smaller
 loop-o-smaller c = let low = (in_row_below c.args.elements.now c.args.p c.in-Some.o c.in-Some.ensures.1).0 in let from = c.in-Some.ensures.0 in omega arith
 
 pub loop-o-preserved : goal.loop-o-preserved
-loop-o-preserved c = labels_more (rows_of c.args.table.now) (in_row c.args.elements.now c.args.p) c.loop-o.labels c.loop-o.from c.in-Some.o c.labels-of-labels.result c.in-Some.ensures c.loop-o.invariant (c.labels-of-labels.ensures ∙ ap labels_in c.row.ensures)
+loop-o-preserved c = labels_more (rows_of c.args.table.now) (in_row c.args.elements.now c.args.p) c.loop-o.labels c.loop-o.from c.in-Some.o c.labels_of-labels.result c.in-Some.ensures c.loop-o.invariant (c.labels_of-labels.ensures ∙ ap labels_in c.row.ensures)
 
 pub returns : goal.returns
-returns c = labels_all (rows_of c.args.table.now) (in_row c.args.elements.now c.args.p) c.loop-o.labels c.loop-o.from c.in-default.ensures c.loop-o.invariant
+returns c = labels_all (rows_of c.args.table.now) (in_row c.args.elements.now c.args.p) c.loop-o.labels c.loop-o.from c.in_default.ensures c.loop-o.invariant

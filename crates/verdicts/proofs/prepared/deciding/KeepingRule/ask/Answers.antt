@@ -6,8 +6,8 @@ use Rattle.verdicts.specs.Facts.{bounded_of, admitted_of}
 use Rattle.verdicts.proofs.Deciding.{ask_is, place_small}
 use Rattle.verdicts.proofs.prepared.deciding.KeepingRule.ask.Goals as goal
 
-pub overflow-cast-place : goal.overflow-cast-place
-overflow-cast-place c =
+pub overflow_cast-place : goal.overflow_cast-place
+overflow_cast-place c =
     let t = c.args.self.now.prepared.now in
     let n = c.count-n.result in
     let e = c.count-n.ensures in
