@@ -1,10 +1,10 @@
 -- The worked table: each case by the pairs that it needs.
-use Rattle.std.proofs.Common.{◌≡◌, ℕ, ◌/◌, ◌%◌, ◌^◌, ◌<◌, Bool, true, false, ◌&&◌, ◌||◌, eqb, ◌⊎◌, List, [], ◌∷◌, Some, sym, refl, ap, ◌∙◌, subst, inl, inr, ⊎_elim, arith}
+use Rattle.std.proofs.Common.{◌≡◌, ℕ, ◌/◌, ◌%◌, ◌^◌, ◌<◌, true, false, ◌&&◌, ◌||◌, eqb, ◌⊎◌, List, [], ◌∷◌, Some, sym, refl, ap, ◌∙◌, subst, inl, inr, ⊎_elim, arith}
 use native.Mathlib.Nat.{pow-le-pow_right, div-eq_of_lt}
 use Rattle.std.specs.List.{AllByRecursion as All, slice_get}
-use Rattle.std.proofs.lemmas.Bool.{both_ways, cases_eq, cases_lt, eqb-true, eq-eqb, and_parts, and_from, or_cases, or_left, or_right}
+use Rattle.std.proofs.lemmas.Bool.{both_ways, cases_eq, cases_lt, eqb-true, and_parts, or_cases}
 use Rattle.forms.specs.declared.Row.{Row}
-use Rattle.forms.specs.declared.Row.TheVariants.{Void, Nothing, Channel, Element, Union}
+use Rattle.forms.specs.declared.Row.TheVariants.{Void, Channel, Element, Union}
 use Rattle.forms.specs.declared.Capability.{Capability}
 use Rattle.forms.specs.declared.Capability.TheVariants.{Out, Both}
 use Rattle.forms.specs.Rows.{belongs}
@@ -12,13 +12,13 @@ use Rattle.forms.specs.Schema.{NoUnion, Offers, Inhabited}
 use Rattle.forms.specs.Schema.Offers.{itself, left, right}
 use Rattle.forms.specs.Schema.Inhabited.{of_void, of_channel, of_element, of_left, of_right}
 use Rattle.forms.specs.Documents.{Document}
-use Rattle.forms.specs.Documents.Document.{void, reference, element}
+use Rattle.forms.specs.Documents.Document.{void, element}
 use Rattle.schema.specs.Rules.{OffersVoid, OffersChannel, OffersElement, Relation, Payloads, Keeps, Below, Fits, Names, Leans, ◌⊑◌}
 use Rattle.schema.specs.Rules.◌⊑◌.{same, both}
 use Rattle.schema.specs.Rules.Fits.{fits_void, fits_reference, fits_element}
 use Rattle.schema.specs.Rules.Names.{receives, sends, inside, following}
 use Rattle.schema.specs.Rules.Leans.{on_itself, on_named}
-use Rattle.schema.specs.Worked.{table, tally, Counts, Shows, alone, Case, Holds, cases, WorkedCases}
+use Rattle.schema.specs.Worked.{table, tally, Counts, Shows, alone, WorkedCases}
 use Rattle.schema.proofs.Findings.{never}
 
 -- LABELS
