@@ -1,6 +1,6 @@
 -- The worked cases, each on an empty book: what it answers over the worked table. Assumes nothing.
 use Rattle.std.specs.Prelude.{◌≡◌, ℕ, ◌+◌, List, length, take}
-use Rattle.std.specs.List.{AllByRecursion as All}
+use Rattle.std.specs.List.{AllByRecursion}
 use Rattle.forms.specs.Documents.{Document}
 use Rattle.forms.specs.Refusals.{Outcome}
 use Rattle.forms.specs.Refusals.Outcome.{refuses, gives}
@@ -38,4 +38,4 @@ OnBook (breaks_alone p q) =
     (words : List ℕ) (answer : Answer) → WellShaped (length table) words → ((a b : ℕ) → related (length table) words a b ≡ alone p q a b) → Answered table NoPair (offer words) answer → answer ≡ offered (refuses (book_refusal (RuleBroken p q)))
 
 abbrev pub WorkedOnBooks : Type 0
-WorkedOnBooks = All OnBook cases
+WorkedOnBooks = AllByRecursion OnBook cases

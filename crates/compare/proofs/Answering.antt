@@ -6,7 +6,7 @@ use Rattle.forms.specs.Refusals.Outcome.{refuses, gives}
 use Rattle.forms.specs.declared.Row.{Row}
 use Rattle.forms.proofs.Findings.{never}
 use Rattle.texts.specs.Faults.{text_refusal}
-use Rattle.texts.specs.declared.TextFault.TheVariants.{TooLong as text-too-long, WrongLine, TooManyLines}
+use Rattle.texts.specs.declared.TextFault.TheVariants.{TooLong as text_too_long, WrongLine, TooManyLines}
 use Rattle.texts.specs.RowText.{Judged}
 use Rattle.texts.specs.RowText.Judged.{is_long, is_wrong, is_more, is_right}
 use Rattle.documents.specs.Limits.{max_document}
@@ -34,7 +34,7 @@ pub record Low (e : Refusal) : Type 0 where
   pub place_low : place_by (values e) < 256
 
 text_low : (bytes : List ℕ) (o : Outcome (List Row)) (e : Refusal) → Judged bytes o → o ≡ refuses e → Low e
-text_low bytes o e (is_long h) is = let z : text_refusal text-too-long ≡ e = cc in subst Low z (record { number_low = omega arith; place_low = omega arith })
+text_low bytes o e (is_long h) is = let z : text_refusal text_too_long ≡ e = cc in subst Low z (record { number_low = omega arith; place_low = omega arith })
 text_low bytes o e (is_wrong {n} {f} b rest h n< right (f<, _, _)) is = let z : text_refusal (WrongLine n f) ≡ e = cc in subst Low z (record { number_low = omega arith; place_low = omega arith })
 text_low bytes o e (is_more b rest h right) is = let z : text_refusal TooManyLines ≡ e = cc in subst Low z (record { number_low = omega arith; place_low = omega arith })
 text_low bytes o e (is_right h few right proper same) is = never (cc)

@@ -17,7 +17,7 @@ use Rattle.documents.specs.Nodes.StandsFor.{for_void, for_reference, for_element
 use Rattle.documents.specs.Writing.{WritesDocument}
 use Rattle.documents.specs.Writing.WritesDocument.{is_many, is_unsound, is_outside, is_long, is_written}
 use Rattle.documents.specs.declared.faults.WriteFault.{WriteFault}
-use Rattle.documents.specs.declared.faults.WriteFault.TheVariants.{ManyNodes, Unsound as unsound-node, RootOutside, TooLong}
+use Rattle.documents.specs.declared.faults.WriteFault.TheVariants.{ManyNodes, Unsound as unsound_node, RootOutside, TooLong}
 use Rattle.documents.specs.declared.nodes.Node.{Node}
 use Rattle.documents.specs.declared.nodes.Node.TheVariants.{Void, Reference, Element}
 use Rattle.documents.proofs.Tables.{stands_one}
@@ -56,7 +56,7 @@ module _ (rows : List Row) (few : length rows ≤ max_rows) where
 
 too_long : (e : WriteFault) → write_refusal e ≡ write_refusal TooLong → e ≡ TooLong
 too_long ManyNodes e = let z : ◌≡◌ {A = ℕ} 30 45 = ap number e in absurd (omega arith)
-too_long (unsound-node k) e = let z : ◌≡◌ {A = ℕ} 31 45 = ap number e in absurd (omega arith)
+too_long (unsound_node k) e = let z : ◌≡◌ {A = ℕ} 31 45 = ap number e in absurd (omega arith)
 too_long RootOutside e = let z : ◌≡◌ {A = ℕ} 32 45 = ap number e in absurd (omega arith)
 too_long TooLong e = refl
 

@@ -9,7 +9,7 @@ use Rattle.documents.specs.Grammar.{comma_before, spelled_document, Small, level
 use Rattle.forms.specs.Documents.Document.{void, reference, element}
 use Rattle.documents.specs.Scan.{step, run, scan, goes_on, ScanTellsLevel}
 use Rattle.documents.specs.declared.scan.Phase.{Phase}
-use Rattle.documents.specs.declared.scan.Phase.TheVariants.{MayBegin as may-begin}
+use Rattle.documents.specs.declared.scan.Phase.TheVariants.{MayBegin as may_begin}
 use Rattle.documents.specs.declared.scan.State.{State}
 use Rattle.documents.specs.declared.scan.State.TheVariants.{Within as within, Stuck as stuck}
 use Rattle.documents.specs.Nodes.{nodes_for}
@@ -70,11 +70,11 @@ level_run (b ∷ w) (within n p) e =
     (ap (λ m. after m w) h ∙ i, omega (arith, sum_by-cons (λ x. cond (eqb x 91) 1 0) b w, sum_by-cons (λ x. cond (eqb x 93) 1 0) b w))
 
 pub scan_tells_level : ScanTellsLevel
-scan_tells_level bytes n p e = let (_, h) = level_run bytes (within 0 may-begin) (rw e refl) in let g : depth (scan bytes) ≡ n = rw e refl in omega arith
+scan_tells_level bytes n p e = let (_, h) = level_run bytes (within 0 may_begin) (rw e refl) in let g : depth (scan bytes) ≡ n = rw e refl in omega arith
 
 -- the level of bytes that go on
 level_after : (bytes : List ℕ) → goes_on (scan bytes) ≡ true → level bytes ≡ after 0 bytes
-level_after bytes e = let (g, h) = level_run bytes (within 0 may-begin) e in omega arith
+level_after bytes e = let (g, h) = level_run bytes (within 0 may_begin) e in omega arith
 
 -- the highest level on the way
 abbrev peak : ℕ → List ℕ → ℕ

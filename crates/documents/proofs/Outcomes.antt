@@ -20,7 +20,7 @@ use Rattle.documents.specs.declared.faults.WriteFault.TheVariants.{RootOutside, 
 use Rattle.documents.specs.Grammar.{spelled_document}
 use Rattle.documents.specs.Nodes.{Sound, StandsFor}
 use Rattle.documents.specs.Spelling.{rest}
-use Rattle.documents.specs.Writing.WritesDocument.{is_outside, is_long as writes-long, is_written as writes-text}
+use Rattle.documents.specs.Writing.WritesDocument.{is_outside, is_long as writes_long, is_written as writes_text}
 use Rattle.forms.proofs.Splices.{wrote_front}
 use Rattle.documents.proofs.Texts.{texts_are_spelled}
 use Rattle.documents.proofs.Tables.{nodes_stand_for_one}
@@ -59,7 +59,7 @@ module _ (nodes : List Node) (root : ℕ) (before : List ℕ) (few : length node
 
   module _ (within : root < length nodes) (room : ℕ) (min-is : room ≡ min (length before) max_document) where
     pub write_long : ((x : Document) → StandsFor nodes root x → None ≡ rest room (length (spelled_document x))) → WrittenInto nodes root before before (Err TooLong)
-    write_long none = let (d, _, stands, _) = nodes_stand_for_one nodes sound root within in (writes-long d few sound stands (omega (arith, no_room room (length (spelled_document d)) (none d stands))), refl)
+    write_long none = let (d, _, stands, _) = nodes_stand_for_one nodes sound root within in (writes_long d few sound stands (omega (arith, no_room room (length (spelled_document d)) (none d stands))), refl)
 
     pub write_done : (left n : ℕ) (after : List ℕ) → ((x : Document) → StandsFor nodes root x → Some left ≡ rest room (length (spelled_document x)))
         → ((x : Document) → StandsFor nodes root x → Wrote before after 0 (spelled_document x) n) → WrittenInto nodes root before after (Ok n) × ReadsBack nodes root after (Ok n)
@@ -69,6 +69,6 @@ module _ (nodes : List Node) (root : ℕ) (before : List ℕ) (few : length node
         let (fits, _) = room_for room (length text) left (some d stands) in
         let (long, filled) = wrote_front before after text n (wrote d stands) (omega arith) in
         let front : take n after ≡ text = ap (take n) filled ∙ take_at text (drop n before) n (sym long) in (
-          (text, writes-text d few sound stands (omega arith), long, filled),
+          (text, writes_text d few sound stands (omega arith), long, filled),
           (d, stands, λ buffer shallow room'. (read_is_spelled buffer (take n after) d).1 (small, front, omega (arith, ap length front), shallow, room')),
         )

@@ -7,8 +7,8 @@ use Rattle.forms.specs.Refusals.{Outcome}
 use Rattle.forms.specs.Refusals.Outcome.{refuses, gives}
 use Rattle.forms.specs.Documents.{Document}
 use Rattle.documents.specs.declared.nodes.Node.{Node}
-use Rattle.documents.specs.declared.nodes.Node.TheVariants.{Void as Void-node, Reference, Element as Element-node}
-use Rattle.documents.specs.declared.faults.WriteFault.TheVariants.{ManyNodes, Unsound as unsound-node, RootOutside, TooLong}
+use Rattle.documents.specs.declared.nodes.Node.TheVariants.{Void as VoidNode, Reference, Element as ElementNode}
+use Rattle.documents.specs.declared.faults.WriteFault.TheVariants.{ManyNodes, Unsound as unsound_node, RootOutside, TooLong}
 use Rattle.documents.specs.Faults.{write_refusal}
 use Rattle.documents.specs.Limits.{max_nodes, max_document}
 use Rattle.documents.specs.Grammar.{spelled_document}
@@ -22,16 +22,16 @@ use Rattle.documents.proofs.Levels.{read_is_spelled}
 
 -- DOCUMENTS
 sound_or_not : (k : ℕ) (m : Node) → Decided (SoundAt k m)
-sound_or_not k Void-node = inl tt
+sound_or_not k VoidNode = inl tt
 sound_or_not k (Reference c) = below_or_not c max_rows
-sound_or_not k (Element-node x i f) = ⊎_elim (λ (a, (b, c)). inl (a, b, c)) (λ none. inr (λ (a, b, c). none (a, (b, c)))) (both_or_not (below_or_not x label_count) (both_or_not (below_or_not i k) (below_or_not f k)))
+sound_or_not k (ElementNode x i f) = ⊎_elim (λ (a, (b, c)). inl (a, b, c)) (λ none. inr (λ (a, b, c). none (a, (b, c)))) (both_or_not (below_or_not x label_count) (both_or_not (below_or_not i k) (below_or_not f k)))
 
 module _ (room : ℕ) (nodes : List Node) (root : ℕ) where
   writes_document : (o : Outcome (List ℕ)) × WritesDocument room nodes root o
   writes_document = ⊎_elim
       (λ many. (refuses (write_refusal ManyNodes), is_many many))
       (λ few. ⊎_elim
-      (λ (k, lowest). (refuses (write_refusal (unsound-node k)), is_unsound few lowest))
+      (λ (k, lowest). (refuses (write_refusal (unsound_node k)), is_unsound few lowest))
       (λ all. let sound : Sound nodes = record { each = λ k {m} e. all k m e } in ⊎_elim
       (λ inside. let (d, _, t, _) = nodes_stand_for_one nodes sound root inside in
       ⊎_elim (λ long. (refuses (write_refusal TooLong), is_long d few sound t long)) (λ fits. (gives (spelled_document d), is_written d few sound t fits)) (cases_lt (min room max_document) (length (spelled_document d))))
@@ -58,7 +58,7 @@ module _ (room : ℕ) (nodes : List Node) (root : ℕ) where
   same_document (is_many h) (is_long d f s t l) = absurd (omega arith)
   same_document (is_many h) (is_written d f s t l) = absurd (omega arith)
   same_document (is_unsound f low) (is_many h) = absurd (omega arith)
-  same_document (is_unsound {k} f low) (is_unsound {k = j} f' low') = ap (λ x. refuses (write_refusal (unsound-node x))) (lowest_one (Unsound nodes) j k low' low)
+  same_document (is_unsound {k} f low) (is_unsound {k = j} f' low') = ap (λ x. refuses (write_refusal (unsound_node x))) (lowest_one (Unsound nodes) j k low' low)
   same_document (is_unsound f low) (is_outside f' s o) = absurd (sound_everywhere s low)
   same_document (is_unsound f low) (is_long d f' s t l) = absurd (sound_everywhere s low)
   same_document (is_unsound f low) (is_written d f' s t l) = absurd (sound_everywhere s low)

@@ -2,7 +2,7 @@
 use Rattle.std.specs.Prelude.{◌≡◌, ℕ, zero, suc, ◌+◌, ◌-◌, ◌*◌, Bool, true, false, cond, ◌&&◌, List, [], ◌∷◌, Decides, ◌==◌, nat_le, nat_lt}
 use Rattle.forms.specs.Limits.{max_rows, label_count}
 use Rattle.documents.specs.declared.scan.Phase.{Phase}
-use Rattle.documents.specs.declared.scan.Phase.TheVariants.{MayBegin as may-begin, MustBegin as must-begin, InLabel as in-label, AfterAt as after-at, InRow as in_row, AfterElement as after_element}
+use Rattle.documents.specs.declared.scan.Phase.TheVariants.{MayBegin as may_begin, MustBegin as must_begin, InLabel as in_label, AfterAt as after_at, InRow as in_row, AfterElement as after_element}
 use Rattle.documents.specs.declared.scan.State.{State}
 use Rattle.documents.specs.declared.scan.State.TheVariants.{Within as within, Stuck as stuck}
 use Rattle.forms.specs.Documents.{Document}
@@ -10,10 +10,10 @@ use Rattle.documents.specs.Grammar.{Text, GoesOn, level}
 
 -- the list may end here
 abbrev pub may_end : Phase → Bool
-may_end may-begin = true
-may_end must-begin = false
-may_end (in-label v) = false
-may_end after-at = false
+may_end may_begin = true
+may_end must_begin = false
+may_end (in_label v) = false
+may_end after_at = false
 may_end (in_row v) = true
 may_end after_element = true
 
@@ -31,16 +31,16 @@ closed (suc n) = within n after_element
 
 -- an item begins
 abbrev pub begun : ℕ → ℕ → State
-begun n b = cond (is_digit b) (within n (in-label (b - 48))) (cond (b == 64) (within n after-at) stuck)
+begun n b = cond (is_digit b) (within n (in_label (b - 48))) (cond (b == 64) (within n after_at) stuck)
 
 -- a byte other than ]
 abbrev pub moved : ℕ → Phase → ℕ → State
-moved n may-begin b = begun n b
-moved n must-begin b = begun n b
-moved n (in-label v) b = cond (b == 91) (within (suc n) may-begin) (cond (may_follow label_count v b) (within n (in-label (v * 10 + (b - 48)))) stuck)
-moved n after-at b = cond (is_digit b) (within n (in_row (b - 48))) stuck
+moved n may_begin b = begun n b
+moved n must_begin b = begun n b
+moved n (in_label v) b = cond (b == 91) (within (suc n) may_begin) (cond (may_follow label_count v b) (within n (in_label (v * 10 + (b - 48)))) stuck)
+moved n after_at b = cond (is_digit b) (within n (in_row (b - 48))) stuck
 moved n (in_row v) b = cond (may_follow max_rows v b) (within n (in_row (v * 10 + (b - 48)))) stuck
-moved n after_element b = cond (b == 44) (within n must-begin) stuck
+moved n after_element b = cond (b == 44) (within n must_begin) stuck
 
 abbrev pub step : State → ℕ → State
 step stuck b = stuck
@@ -51,7 +51,7 @@ run s [] = s
 run s (b ∷ bytes) = run (step s b) bytes
 
 abbrev pub scan : List ℕ → State
-scan bytes = run (within 0 may-begin) bytes
+scan bytes = run (within 0 may_begin) bytes
 
 abbrev pub goes_on : State → Bool
 goes_on (within n p) = true

@@ -9,7 +9,7 @@ use Rattle.documents.specs.declared.nodes.Node.{Node}
 use Rattle.documents.specs.Limits.{max_nodes, max_document}
 use Rattle.documents.specs.Grammar.{spelled_document}
 use Rattle.documents.specs.Nodes.{SoundAt, Sound, StandsFor, nodes_for}
-use Rattle.documents.specs.declared.faults.WriteFault.TheVariants.{ManyNodes, Unsound as unsound-node, RootOutside, TooLong}
+use Rattle.documents.specs.declared.faults.WriteFault.TheVariants.{ManyNodes, Unsound as unsound_node, RootOutside, TooLong}
 use Rattle.documents.specs.Faults.{write_refusal}
 use Rattle.documents.specs.Reading.{Reads}
 
@@ -21,7 +21,7 @@ Unsound nodes k = (m : Node) × (slice_get nodes k ≡ Some m) × (SoundAt k m �
 pub data WritesDocument (room : ℕ) (nodes : List Node) (root : ℕ) : Outcome (List ℕ) → Type 0 where
   -- more than 4,160 nodes
   is_many : max_nodes < length nodes → WritesDocument room nodes root (refuses (write_refusal ManyNodes))
-  is_unsound : {k : ℕ} → length nodes ≤ max_nodes → Lowest (Unsound nodes) k → WritesDocument room nodes root (refuses (write_refusal (unsound-node k)))
+  is_unsound : {k : ℕ} → length nodes ≤ max_nodes → Lowest (Unsound nodes) k → WritesDocument room nodes root (refuses (write_refusal (unsound_node k)))
   -- the root is not in the table
   is_outside : length nodes ≤ max_nodes → Sound nodes → length nodes ≤ root → WritesDocument room nodes root (refuses (write_refusal RootOutside))
   -- a text longer than the buffer, or than 32,768 bytes

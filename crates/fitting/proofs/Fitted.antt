@@ -9,7 +9,7 @@ use Rattle.forms.specs.Documents.Document.{void, reference, element}
 use Rattle.forms.specs.Limits.{max_rows}
 use Rattle.forms.specs.Rows.{belongs}
 use Rattle.forms.specs.Schema.{Offers, Inhabited, IsChannel}
-use Rattle.forms.specs.Schema.Inhabited.{of_element as inhabited-element}
+use Rattle.forms.specs.Schema.Inhabited.{of_element as inhabited_element}
 use Rattle.forms.specs.declared.Row.{Row}
 use Rattle.forms.specs.declared.Row.TheVariants.{Element as element_row}
 use Rattle.documents.specs.Nodes.{SoundWith, SoundOver, StandsFor}
@@ -77,7 +77,7 @@ module _ (rows : List Row) (few : length rows ≤ max_rows) (B : ℕ → ℕ →
         let t = element_by rows B f in (
           t.number,
           t.offered,
-          inhabited-element x t.is t.has (fits_inhabited rows a t.fits_inside) (fits_inhabited rows b t.fits_following),
+          inhabited_element x t.is t.has (fits_inhabited rows a t.fits_inside) (fits_inhabited rows b t.fits_following),
           (t.labels, t.inside, t.following, t.is),
           ap (holds (in_row marks) x p q) t.is
               ∙ and_from (belongs x t.labels) (in_row marks p t.inside && in_row marks q t.following) t.has

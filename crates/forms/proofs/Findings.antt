@@ -1,6 +1,6 @@
 -- Decisions, the lowest number of its sort, and the faults of a list. Assumes nothing.
 use Rattle.std.proofs.Common.{◌≡◌, ℕ, zero, suc, ◌<◌, ◌⊎◌, List, [], ◌∷◌, length, Some, refl, subst, inl, inr, ⊎_elim, arith}
-use Rattle.std.specs.List.{AllByRecursion as All, slice_get}
+use Rattle.std.specs.List.{AllByRecursion, slice_get}
 use Rattle.std.proofs.lemmas.Bool.{cases_eq, cases_lt, cases_order}
 use Rattle.forms.specs.Places.{NoneBelow, Lowest}
 
@@ -27,7 +27,7 @@ same_or_not (x ∷ xs) (y ∷ ys) = ⊎_elim
     (λ ne. inr (λ e'. ne (cc)))
     (cases_eq x y)
 
-pub all_or_not : {P : ℕ → Type 0} → ((x : ℕ) → Decided (P x)) → (xs : List ℕ) → Decided (All P xs)
+pub all_or_not : {P : ℕ → Type 0} → ((x : ℕ) → Decided (P x)) → (xs : List ℕ) → Decided (AllByRecursion P xs)
 all_or_not test [] = inl tt
 all_or_not test (x ∷ xs) = both_or_not (test x) (all_or_not test xs)
 

@@ -2,7 +2,7 @@
 use Rattle.std.specs.Prelude.{◌≡◌, ℕ, ◌+◌, ◌^◌, ◌<◌, ◌≤◌, true, ◌&&◌, List, [], map, length, nat_le, nat_lt, slice_index_or}
 use Rattle.std.proofs.Common.{arith, length-append, length-take}
 use Rattle.std.proofs.lemmas.List.{length-map}
-use Rattle.std.specs.List.{AllByRecursion as All}
+use Rattle.std.specs.List.{AllByRecursion}
 use Rattle.std.proofs.lemmas.Bool.{cond_both, leb-true, ltb-true, and_parts}
 use Rattle.std.proofs.ByRecursion.{All-append, All-map, All-weaker, All-take, All-from_get_or}
 use Rattle.forms.specs.declared.Row.{Row}
@@ -39,7 +39,7 @@ shift_fit n m h (Channel k p) f = (raised_byte n m p h, tt)
 shift_fit n m h (Element l i g) f = ((raised_byte n m i h, raised_byte n m g h), f.1)
 shift_fit n m h (Union p q) f = ((raised_byte n m p h, raised_byte n m q h), tt)
 
-all_shift : (n m : ℕ) → n + m ≤ max_rows → (rows : List Row) → All Fit rows → All Fit (map (shift n m) rows)
+all_shift : (n m : ℕ) → n + m ≤ max_rows → (rows : List Row) → AllByRecursion Fit rows → AllByRecursion Fit (map (shift n m) rows)
 all_shift n m h rows all = All-map Fit (shift n m) rows (All-weaker Fit (λ r. Fit (shift n m r)) (shift_fit n m h) rows all)
 
 pub length_sides : (a b : List Row) → length (sides a b) ≡ length a + length b

@@ -1,6 +1,6 @@
 -- What rows are, and what the sources above other sources mean. Assumes nothing.
 use Rattle.std.specs.Prelude.{ℕ, ◌+◌, ◌/◌, ◌%◌, ◌^◌, ◌<◌, ◌≤◌, Bool, true, cond, ◌&&◌, List, [], ◌++◌, map, length, ◌==◌, nat_le, nat_lt}
-use Rattle.std.specs.List.{AllByRecursion as All}
+use Rattle.std.specs.List.{AllByRecursion}
 use Rattle.forms.specs.declared.Row.{Row}
 use Rattle.forms.specs.declared.Row.TheVariants.{Void, Nothing, Channel, Element, Union}
 use Rattle.forms.specs.declared.Capability.{Capability}
@@ -42,7 +42,7 @@ fits (Union l r) = nat_lt l numbers && nat_lt r numbers
 -- what every source keeps to
 pub record Lawful (rows : List Row) : Type 0 where
   pub few : length rows ≤ max_rows
-  pub fit : All Fit rows
+  pub fit : AllByRecursion Fit rows
 
 -- the rows, or none if there are too many
 abbrev pub few : List Row → List Row

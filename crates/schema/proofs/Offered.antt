@@ -6,7 +6,7 @@ use Rattle.forms.specs.Limits.{label_count}
 use Rattle.std.proofs.lemmas.Bool.{both_ways, and_parts, and_from, and_cases, or_cases, or_parts, or_left, or_right, cases_Bool, not-false, not-true, lt-ltb, ltb-true, eqb-true, eqb-false, cases_lt}
 use Rattle.forms.specs.declared.Row.{Row}
 use Rattle.forms.specs.declared.Row.TheVariants.{Void, Nothing, Channel, Element, Union}
-use Rattle.std.specs.List.{AllByRecursion as All, slice_get}
+use Rattle.std.specs.List.{AllByRecursion, slice_get}
 use Rattle.forms.specs.Rows.{belongs}
 use Rattle.forms.specs.Schema.{NoUnion, Offers, Inhabited}
 use Rattle.schema.specs.Rules.{Bounded}
@@ -19,7 +19,7 @@ pub at_below : (rows : List Row) (p : ℕ) {row : Row} → slice_get rows p ≡ 
 at_below rows p e = ⊎_elim (λ h. h) (λ past. let none = slice_get_past rows p past in never (cc)) (cases_lt p (length rows))
 
 -- what holds of each row holds of the row with any number
-pub nth_all : (P : Row → Type 0) (rows : List Row) → All P rows → (p : ℕ) {row : Row} → slice_get rows p ≡ Some row → P row
+pub nth_all : (P : Row → Type 0) (rows : List Row) → AllByRecursion P rows → (p : ℕ) {row : Row} → slice_get rows p ≡ Some row → P row
 nth_all P [] all p e = never (cc)
 nth_all P (r ∷ rs) all zero {row} e = let s : r ≡ row = cc in subst P s all.0
 nth_all P (r ∷ rs) all (suc p) e = nth_all P rs all.1 p e

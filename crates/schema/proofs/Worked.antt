@@ -1,7 +1,7 @@
 -- The worked table: each case by the pairs that it needs.
 use Rattle.std.proofs.Common.{◌≡◌, ℕ, ◌/◌, ◌%◌, ◌^◌, ◌<◌, true, false, ◌&&◌, ◌||◌, eqb, ◌⊎◌, List, [], ◌∷◌, Some, sym, refl, ap, ◌∙◌, subst, inl, inr, ⊎_elim, arith}
 use native.Mathlib.Nat.{pow-le-pow_right, div-eq_of_lt}
-use Rattle.std.specs.List.{AllByRecursion as All, slice_get}
+use Rattle.std.specs.List.{AllByRecursion, slice_get}
 use Rattle.std.proofs.lemmas.Bool.{both_ways, cases_eq, cases_lt, eqb-true, and_parts, or_cases}
 use Rattle.forms.specs.declared.Row.{Row}
 use Rattle.forms.specs.declared.Row.TheVariants.{Void, Channel, Element, Union}
@@ -64,7 +64,7 @@ listed [] p q = false
 listed (x ∷ xs) p q = (eqb p x.0 && eqb q x.1) || listed xs p q
 
 -- what holds of each listed pair holds of each pair of the relation
-each_listed : (P : ℕ → ℕ → Type 0) (xs : List (ℕ × ℕ)) → All (λ x. P x.0 x.1) xs → (p q : ℕ) → listed xs p q ≡ true → P p q
+each_listed : (P : ℕ → ℕ → Type 0) (xs : List (ℕ × ℕ)) → AllByRecursion (λ x. P x.0 x.1) xs → (p q : ℕ) → listed xs p q ≡ true → P p q
 each_listed P [] all p q h = absurd (both_ways false refl h)
 each_listed P (x ∷ xs) all p q h = ⊎_elim
     (λ here.
@@ -73,18 +73,18 @@ each_listed P (x ∷ xs) all p q h = ⊎_elim
     (each_listed P xs all.1 p q)
     (or_cases (eqb p x.0 && eqb q x.1) (listed xs p q) h)
 
-below_by : (xs : List (ℕ × ℕ)) → All (λ x. Keeps table (listed xs) x.0 x.1) xs → (p q : ℕ) → listed xs p q ≡ true → Below table p q
+below_by : (xs : List (ℕ × ℕ)) → AllByRecursion (λ x. Keeps table (listed xs) x.0 x.1) xs → (p q : ℕ) → listed xs p q ≡ true → Below table p q
 below_by xs all p q h = (listed xs, each_listed (Keeps table (listed xs)) xs all, h)
 
 -- pairs that the rules do not lead out of
 abbrev Leads : List (ℕ × ℕ) → ℕ → ℕ → Type 0
 Leads xs p q = (a b : ℕ) → Names table p q a b → listed xs a b ≡ true
 
-leans_within : (xs : List (ℕ × ℕ)) → All (λ x. Leads xs x.0 x.1) xs → {p q a b : ℕ} → listed xs p q ≡ true → Leans table p q a b → listed xs a b ≡ true
+leans_within : (xs : List (ℕ × ℕ)) → AllByRecursion (λ x. Leads xs x.0 x.1) xs → {p q a b : ℕ} → listed xs p q ≡ true → Leans table p q a b → listed xs a b ≡ true
 leans_within xs all h on_itself = h
 leans_within xs all {p} {q} h (on_named {a = c} {b = d} names more) = leans_within xs all (each_listed (Leads xs) xs all p q h c d names) more
 
-counted : (xs : List (ℕ × ℕ)) → All (λ x. Leads xs x.0 x.1) xs → (p q : ℕ) → listed xs p q ≡ true → All (λ x. Leans table p q x.0 x.1) xs → (k : ℕ) → k ≡ tally 10 (listed xs) 100 → Counts 10 (Leans table p q) k
+counted : (xs : List (ℕ × ℕ)) → AllByRecursion (λ x. Leads xs x.0 x.1) xs → (p q : ℕ) → listed xs p q ≡ true → AllByRecursion (λ x. Leans table p q x.0 x.1) xs → (k : ℕ) → k ≡ tally 10 (listed xs) 100 → Counts 10 (Leans table p q) k
 counted xs all p q h leaned k e = record { R = listed xs; sound = each_listed (Leans table p q) xs leaned; complete = λ a b l. leans_within xs all h l; many = e }
 
 -- THE ROWS

@@ -1,6 +1,6 @@
 -- The worked table, and what holds of its rows. Assumes nothing.
 use Rattle.std.specs.Prelude.{◌≡◌, ℕ, zero, suc, ◌+◌, ◌*◌, ◌/◌, ◌%◌, true, cond, ◌&&◌, List, [], ◌∷◌, length, ◌==◌}
-use Rattle.std.specs.List.{AllByRecursion as All}
+use Rattle.std.specs.List.{AllByRecursion}
 use Rattle.forms.specs.declared.Row.{Row}
 use Rattle.forms.specs.declared.Row.TheVariants.{Void, Nothing, Channel, Element, Union}
 use Rattle.forms.specs.declared.Capability.TheVariants.{Out, Both}
@@ -69,4 +69,4 @@ cases =
     ∷ []
 
 abbrev pub WorkedCases : Type 0
-WorkedCases = All Holds cases
+WorkedCases = AllByRecursion Holds cases

@@ -1,7 +1,7 @@
 -- The values of fields, digit by digit.
 use Rattle.std.proofs.Common.{◌≡◌, ℕ, zero, suc, ◌+◌, ◌*◌, ◌/◌, ◌%◌, ◌^◌, ◌<◌, ◌⊎◌, List, [], ◌∷◌, ◌++◌, length, get_or, take, Some, None, decimal, Option, sym, refl, ap, ◌∙◌, subst, inl, inr, ⊎_elim, mod-lt, mul_assoc, pow-suc, div-add-mod', div-one, add-one, arith}
 use native.Mathlib.Nat.{pow-le-pow_right}
-use Rattle.std.specs.List.{AllByRecursion as All}
+use Rattle.std.specs.List.{AllByRecursion}
 use Rattle.std.proofs.lemmas.Fmt.{decimal_digit, decimal_step}
 use Rattle.std.proofs.lemmas.List.{take_more, take_all, nil_from_length}
 use Rattle.std.proofs.ByRecursion.{All-get_or}
@@ -102,5 +102,5 @@ labels_long f v (h, e) = ap length e ∙ length_hexadecimal label_digits v
 -- a byte that is no digit
 pub labels_digit : (f : List ℕ) (i v : ℕ) → i < length f → OfLabels f v → ((d : ℕ) → (d < 16) × (get_or f i 0 ≡ digit_in_hex d) → ⊥) → ⊥
 labels_digit f i v l (h, e) none =
-    let (d, d<, is) = hex_digit_value (get_or f i 0) (All-get_or HexDigit f i 0 l (subst (All HexDigit) (sym e) (hexadecimal_is label_digits v h))) in
+    let (d, d<, is) = hex_digit_value (get_or f i 0) (All-get_or HexDigit f i 0 l (subst (AllByRecursion HexDigit) (sym e) (hexadecimal_is label_digits v h))) in
     none d (d<, is)

@@ -1,6 +1,6 @@
 -- Every text has one outcome, and a right one is how its rows are spelled.
 use Rattle.std.proofs.Common.{◌≡◌, ℕ, zero, suc, ◌+◌, ◌*◌, ◌<◌, ◌≤◌, List, [], ◌∷◌, ◌++◌, length, sym, refl, ap, ◌∙◌, subst, ⊎_elim, arith}
-use Rattle.std.specs.List.{AllByRecursion as All}
+use Rattle.std.specs.List.{AllByRecursion}
 use Rattle.std.proofs.lemmas.List.{append_assoc, append-nil, length-append, length_push, flat_map_more}
 use Rattle.std.proofs.ByRecursion.{All-push, All-weaker}
 use Rattle.std.proofs.lemmas.Bool.{cases_eq, cases_lt}
@@ -33,7 +33,7 @@ row_short (Channel c s) p = omega (arith, figures_short (figures s p))
 row_short (Element l i n) p = omega (arith, length_hexadecimal label_digits l, figures_short (figures i p.0), figures_short (figures n p.1))
 row_short (Union l r) p = omega (arith, figures_short (figures l p.0), figures_short (figures r p.1))
 
-rows_short : (rows : List Row) → All (NumbersBelow max_rows) rows → length (spelled rows) ≤ 25 * length rows
+rows_short : (rows : List Row) → AllByRecursion (NumbersBelow max_rows) rows → length (spelled rows) ≤ 25 * length rows
 rows_short [] all = omega arith
 rows_short (r ∷ rows) all = let h = row_short r all.0 in let g = rows_short rows all.1 in simp length-append (omega arith)
 
@@ -70,7 +70,7 @@ wrong_one : (f g : ℕ) (bytes : List ℕ) → FirstWrong f bytes → FirstWrong
 wrong_one f g bytes (h, up_to_lem, no_further) (h', (k, rest, fs), no-further') = ⊎_elim (λ l. absurd (no_further (fewer_fields g (suc f) l k bytes rest fs))) (λ l. l) (cases_lt f g)
 
 -- ROWS
-lines_rows : (n : ℕ) (bytes rest : List ℕ) → RightLines n bytes rest → (rows : List Row) × (length rows ≡ n) × All Proper rows × (bytes ≡ spelled rows ++ rest)
+lines_rows : (n : ℕ) (bytes rest : List ℕ) → RightLines n bytes rest → (rows : List Row) × (length rows ≡ n) × AllByRecursion Proper rows × (bytes ≡ spelled rows ++ rest)
 lines_rows zero bytes rest e = ([], refl, tt, e)
 lines_rows (suc n) bytes rest (b, k, ls, fs) =
     let (rows, l, all, e) = lines_rows n bytes b ls in
@@ -87,15 +87,15 @@ lines_more zero k bytes mid rest fs e = (bytes, k, refl, subst (RightFields k 4 
 lines_more (suc n) k bytes mid rest fs (b, k', ls, fs') = (b, k', lines_more n k bytes mid b fs ls, fs')
 
 -- the lines of rows, and what follows them
-pub lines_of_rows : (rows : List Row) → All Proper rows → (rest : List ℕ) → RightLines (length rows) (spelled rows ++ rest) rest
+pub lines_of_rows : (rows : List Row) → AllByRecursion Proper rows → (rest : List ℕ) → RightLines (length rows) (spelled rows ++ rest) rest
 lines_of_rows [] all rest = refl
 lines_of_rows (r ∷ rows) all rest = rw (append_assoc (spelled_row r) (spelled rows) rest)
     (lines_more (length rows) (kind r) (spelled_row r ++ (spelled rows ++ rest)) (spelled rows ++ rest) rest (row_line r all.0 (spelled rows ++ rest)) (lines_of_rows rows all.1 rest))
 
-rows_lines : (rows : List Row) → All Proper rows → RightLines (length rows) (spelled rows) []
+rows_lines : (rows : List Row) → AllByRecursion Proper rows → RightLines (length rows) (spelled rows) []
 rows_lines rows all = subst (λ t. RightLines (length rows) t []) (append-nil (spelled rows)) (lines_of_rows rows all [])
 
-rows_one : (rows rows' : List Row) → All Proper rows → All Proper rows' → spelled rows ≡ spelled rows' → rows ≡ rows'
+rows_one : (rows rows' : List Row) → AllByRecursion Proper rows → AllByRecursion Proper rows' → spelled rows ≡ spelled rows' → rows ≡ rows'
 rows_one [] [] all all' e = refl
 rows_one [] (r ∷ rows) all all' e = never (cc)
 rows_one (r ∷ rows) [] all all' e = never (cc)
@@ -109,7 +109,7 @@ right_is_spelled bytes rows = (
   λ (few, all, e). is_right (rw e (spelled_is_short rows few (All-weaker Proper (NumbersBelow max_rows) (λ r p. p.0) rows all))) few (rw e (rows_lines rows all)) all e,
 )
   where
-    spelling : (rows : List Row) → Judged bytes (gives rows) → (length rows ≤ max_rows) × All Proper rows × (bytes ≡ spelled rows)
+    spelling : (rows : List Row) → Judged bytes (gives rows) → (length rows ≤ max_rows) × AllByRecursion Proper rows × (bytes ≡ spelled rows)
     spelling rows (is_right short few ls all e) = (few, all, e)
 
 -- ONE OUTCOME

@@ -1,6 +1,6 @@
 -- Reading a line field by field.
 use Rattle.std.proofs.Common.{◌≡◌, ℕ, zero, suc, ◌<◌, List, [], ◌∷◌, ◌++◌, length, get_or, drop, Ok, Err, Result, sym, refl, ap, ◌∙◌, subst, arith}
-use Rattle.std.specs.List.{AllByRecursion as All}
+use Rattle.std.specs.List.{AllByRecursion}
 use Rattle.forms.specs.declared.Row.{Row}
 use Rattle.texts.specs.declared.kinds.Kind.{Kind}
 use Rattle.texts.specs.declared.kinds.Kind.TheVariants.{Void as void}
@@ -27,7 +27,7 @@ blank_fits = record { allows = λ f v e. e; tells = λ f e. (tt, e) }
 
 pub labels_fits : Fits OfLabels a_label_set
 labels_fits = record {
-  allows = λ f n (h, e). (ap length e ∙ length_hexadecimal label_digits n, subst (All HexDigit) (sym e) (hexadecimal_is label_digits n h));
+  allows = λ f n (h, e). (ap length e ∙ length_hexadecimal label_digits n, subst (AllByRecursion HexDigit) (sym e) (hexadecimal_is label_digits n h));
   tells = λ f (l, all). let (n, h, e) = hexadecimal_value f all in (n, (rw l at h, rw l at e));
 }
 

@@ -1,6 +1,6 @@
 -- Row numbers in decimal, and numbers of 64 bits in hexadecimal.
 use Rattle.std.proofs.Common.{◌≡◌, ℕ, zero, suc, ◌+◌, ◌-◌, ◌*◌, ◌/◌, ◌%◌, ◌^◌, ◌<◌, ◌≤◌, List, [], ◌∷◌, length, decimal, refl, ap, inl, inr, ⊎_elim, mod-lt, pow-suc, div-add-mod', arith}
-use Rattle.std.specs.List.{AllByRecursion as All}
+use Rattle.std.specs.List.{AllByRecursion}
 use Rattle.std.proofs.lemmas.Fmt.{decimal_digit, decimal_step, decimal_injective}
 use Rattle.std.proofs.lemmas.Nat.{mul-add-lt, div-mul-add, mod-mul-add, div_below}
 use Rattle.std.proofs.lemmas.Bool.{cases_lt, lt-ltb, le-ltb}
@@ -53,7 +53,7 @@ sixteen (suc k) = let h = sixteen k in rw pow-suc (omega arith)
 first_digit : (k n : ℕ) → n < 16 ^ suc k → n / 16 ^ k < 16
 first_digit k n h = div_below n (16 ^ k) 16 (sixteen k) (omega (arith, pow-suc 16 k))
 
-pub hexadecimal_is : (k n : ℕ) → n < 16 ^ k → All HexDigit (hexadecimal k n)
+pub hexadecimal_is : (k n : ℕ) → n < 16 ^ k → AllByRecursion HexDigit (hexadecimal k n)
 unfolding hexadecimal
 hexadecimal_is zero n h = tt
 hexadecimal_is (suc k) n h = (hex_digit_is (n / 16 ^ k) (first_digit k n h), hexadecimal_is k (n % 16 ^ k) (mod-lt n (sixteen k)))
@@ -67,7 +67,7 @@ hexadecimal_one (suc k) m n h g e =
     cc (div-add-mod' m (16 ^ k), div-add-mod' n (16 ^ k))
 
 -- every text of k hexadecimal digits is that of a number
-pub hexadecimal_value : (f : List ℕ) → All HexDigit f → (n : ℕ) × (n < 16 ^ length f) × (f ≡ hexadecimal (length f) n)
+pub hexadecimal_value : (f : List ℕ) → AllByRecursion HexDigit f → (n : ℕ) × (n < 16 ^ length f) × (f ≡ hexadecimal (length f) n)
 unfolding hexadecimal
 hexadecimal_value [] all = (0, omega arith, refl)
 hexadecimal_value (b ∷ f) all =

@@ -1,6 +1,6 @@
 -- Fields and lines: each right line spells one row.
 use Rattle.std.proofs.Common.{◌≡◌, ℕ, zero, suc, ◌<◌, ◌≤◌, true, false, cond, eqb, ◌⊎◌, List, [], ◌∷◌, ◌++◌, length, get_or, sym, refl, ap, ◌∙◌, subst, subst₂, inl, inr, ⊎_elim, arith}
-use Rattle.std.specs.List.{AllByRecursion as All}
+use Rattle.std.specs.List.{AllByRecursion}
 use Rattle.std.proofs.lemmas.List.{append_assoc}
 use Rattle.std.proofs.ByRecursion.{All-weaker}
 use Rattle.std.proofs.lemmas.Bool.{cases_eq, cases_lt}
@@ -20,7 +20,7 @@ use Rattle.texts.proofs.Numbers.Figures.{one, two}
 
 -- bytes without a comma or byte 10
 abbrev pub Plain : List ℕ → Type 0
-Plain f = All (λ b. stops b ≡ false) f
+Plain f = AllByRecursion (λ b. stops b ≡ false) f
 
 figures_plain : {n : ℕ} {f : List ℕ} → Figures n f → Plain f
 figures_plain {n} (one h) = (grind (arith, nat_tests), tt)

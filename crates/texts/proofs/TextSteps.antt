@@ -1,6 +1,6 @@
 -- Reading a text line by line.
 use Rattle.std.proofs.Common.{◌≡◌, ℕ, ◌+◌, ◌-◌, ◌<◌, ◌≤◌, ltb, List, [], ◌∷◌, ◌++◌, length, get_or, drop, sym, ap, ◌∙◌, subst, arith}
-use Rattle.std.specs.List.{AllByRecursion as All}
+use Rattle.std.specs.List.{AllByRecursion}
 use Rattle.std.proofs.lemmas.List.{append_assoc, append-nil, length-append, length_push, length-drop, flat_map_more, drop_more, drop_all}
 use Rattle.std.proofs.ByRecursion.{All-push}
 use Rattle.std.proofs.lemmas.Bool.{cond-true, lt-ltb}
@@ -19,7 +19,7 @@ use Rattle.texts.proofs.Judging.{right_is_spelled, lines_of_rows}
 pub record ReadTo (bytes : List ℕ) (place n : ℕ) (rows : List Row) : Type 0 where
   pub count : length rows ≡ n
   pub few : n ≤ max_rows
-  pub proper : All Proper rows
+  pub proper : AllByRecursion Proper rows
   pub spelt : bytes ≡ spelled rows ++ drop place bytes
 
 pub read_more : (bytes : List ℕ) (place next n : ℕ) (rows after : List Row) (row : Row) → ReadTo bytes place n rows → (n ≡ max_rows → ⊥) → Proper row × (drop place bytes ≡ spelled_row row ++ drop next bytes) → after ≡ pushed rows row → ReadTo bytes next (n + 1) after

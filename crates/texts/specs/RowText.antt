@@ -1,6 +1,6 @@
 -- Row text: how rows are spelled, which texts are right, and how a text is judged. Assumes nothing.
 use Rattle.std.specs.Prelude.{◌≡◌, ℕ, zero, suc, ◌+◌, ◌/◌, ◌%◌, ◌^◌, ◌<◌, ◌≤◌, Bool, cond, ◌||◌, ◌⊎◌, ◌↔◌, List, [], ◌∷◌, ◌++◌, length, decimal, ◌==◌, nat_lt, slice_index_or}
-use Rattle.std.specs.List.{flat_map, AllByRecursion as All}
+use Rattle.std.specs.List.{flat_map, AllByRecursion}
 use Rattle.forms.specs.declared.Row.{Row}
 use Rattle.forms.specs.declared.Row.TheVariants.{Void, Nothing, Channel, Element, Union}
 use Rattle.forms.specs.declared.Capability.{Capability}
@@ -92,7 +92,7 @@ HexDigit b = ((48 ≤ b) × (b ≤ 57)) ⊎ ((97 ≤ b) × (b ≤ 102))
 abbrev pub Allowed : Content → List ℕ → Type 0
 Allowed (the_letter k) f = f ≡ letter k ∷ []
 Allowed a_capability f = (c : Capability) × (f ≡ letter_of_capability c ∷ [])
-Allowed a_label_set f = (length f ≡ label_digits) × All HexDigit f
+Allowed a_label_set f = (length f ≡ label_digits) × AllByRecursion HexDigit f
 Allowed a_number f = (n : ℕ) × (n < max_rows) × (f ≡ decimal n)
 Allowed no_bytes f = f ≡ []
 
@@ -151,7 +151,7 @@ pub data Judged (bytes : List ℕ) : Outcome (List Row) → Type 0 where
   -- after 64 right lines a line begins
   is_more : (b : ℕ) (rest : List ℕ) → length bytes ≤ max_text → RightLines max_rows bytes (b ∷ rest) → Judged bytes (refuses (text_refusal TooManyLines))
   -- at most 64 lines, all of them right: the text means the rows that it spells
-  is_right : {rows : List Row} → length bytes ≤ max_text → length rows ≤ max_rows → RightLines (length rows) bytes [] → All Proper rows → bytes ≡ spelled rows → Judged bytes (gives rows)
+  is_right : {rows : List Row} → length bytes ≤ max_text → length rows ≤ max_rows → RightLines (length rows) bytes [] → AllByRecursion Proper rows → bytes ≡ spelled rows → Judged bytes (gives rows)
 
 -- Every text has exactly one outcome.
 abbrev pub JudgementIsOne : Type 0
@@ -159,8 +159,8 @@ JudgementIsOne = (bytes : List ℕ) → (o : Outcome (List Row)) × Judged bytes
 
 -- A text is right and means rows just where it is how these rows are spelled.
 abbrev pub RightIsSpelled : Type 0
-RightIsSpelled = (bytes : List ℕ) (rows : List Row) → Judged bytes (gives rows) ↔ ((length rows ≤ max_rows) × All Proper rows × (bytes ≡ spelled rows))
+RightIsSpelled = (bytes : List ℕ) (rows : List Row) → Judged bytes (gives rows) ↔ ((length rows ≤ max_rows) × AllByRecursion Proper rows × (bytes ≡ spelled rows))
 
 -- What can be spelled is never too long.
 abbrev pub SpelledIsShort : Type 0
-SpelledIsShort = (rows : List Row) → length rows ≤ max_rows → All (NumbersBelow max_rows) rows → length (spelled rows) ≤ max_text
+SpelledIsShort = (rows : List Row) → length rows ≤ max_rows → AllByRecursion (NumbersBelow max_rows) rows → length (spelled rows) ≤ max_text
