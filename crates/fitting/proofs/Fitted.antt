@@ -9,7 +9,7 @@ use Rattle.forms.specs.Documents.Document.{void, reference, element}
 use Rattle.forms.specs.Limits.{max_rows}
 use Rattle.forms.specs.Rows.{belongs}
 use Rattle.forms.specs.Schema.{Offers, Inhabited, IsChannel}
-use Rattle.forms.specs.Schema.Inhabited.{of_element as inhabited_element}
+use Rattle.forms.specs.Schema.Inhabited.{of_void as inhabited_void, of_channel as inhabited_channel, of_element as inhabited_element}
 use Rattle.forms.specs.declared.Row.{Row}
 use Rattle.forms.specs.declared.Row.TheVariants.{Element as element_row}
 use Rattle.documents.specs.Nodes.{SoundWith, SoundOver, StandsFor}
@@ -18,9 +18,11 @@ use Rattle.documents.specs.declared.nodes.Node.{Node}
 use Rattle.documents.specs.declared.nodes.Node.TheVariants.{Void, Reference, Element}
 use Rattle.documents.proofs.Shapes.{of_void, of_reference, of_element}
 use Rattle.relation.specs.Cells.{cell}
-use Rattle.schema.specs.Rules.{OffersVoid, FitsBy, Below, Fits}
-use Rattle.schema.specs.Rules.FitsBy.{fits_void, fits_reference, fits_element}
-use Rattle.schema.proofs.Inclusion.{fits_inhabited}
+use Rattle.schema.specs.Rules.{OffersVoid, Below, Fits}
+use Rattle.schema.specs.Fitting.{FitsBy}
+use Rattle.schema.specs.Fitting.FitsBy.{fits_void, fits_reference, fits_element}
+use Rattle.schema.proofs.Inclusion.{offers_inhabited}
+use Rattle.schema.proofs.Fitting.{fits_of_by, by_of_fits}
 use Rattle.schema.proofs.Offered.{offering_below}
 use Rattle.verdicts.specs.Ready.{in_row}
 use Rattle.verdicts.proofs.Walks.{in_row_low, in_row_below}
@@ -32,6 +34,12 @@ module _ (rows : List Row) (B : ℕ → ℕ → Type 0) where
   fits_below (fits_void v) = offering_below rows v.1
   fits_below (fits_reference offers e b) = offering_below rows offers
   fits_below (fits_element offers e m fa fb) = offering_below rows offers
+
+  -- a row that some document fits is inhabited
+  fits_inhabited : (d : Document) {r : ℕ} → FitsBy rows B d r → Inhabited rows r
+  fits_inhabited void (fits_void v) = offers_inhabited rows v.1 (inhabited_void v.2)
+  fits_inhabited (reference c) (fits_reference u e b) = offers_inhabited rows u (inhabited_channel e)
+  fits_inhabited (element x a b) (fits_element u e m fa fb) = offers_inhabited rows u (inhabited_element x e m (fits_inhabited a fa) (fits_inhabited b fb))
 
   void_by : {r : ℕ} → FitsBy rows B void r → OffersVoid rows r
   void_by (fits_void v) = v
@@ -77,7 +85,7 @@ module _ (rows : List Row) (few : length rows ≤ max_rows) (B : ℕ → ℕ →
         let t = element_by rows B f in (
           t.number,
           t.offered,
-          inhabited_element x t.is t.has (fits_inhabited rows a t.fits_inside) (fits_inhabited rows b t.fits_following),
+          inhabited_element x t.is t.has (fits_inhabited rows B a t.fits_inside) (fits_inhabited rows B b t.fits_following),
           (t.labels, t.inside, t.following, t.is),
           ap (holds (in_row marks) x p q) t.is
               ∙ and_from (belongs x t.labels) (in_row marks p t.inside && in_row marks q t.following) t.has
@@ -127,6 +135,6 @@ pub fits_by_below : (rows : List Row) (nodes : List Node) (B : ℕ → ℕ → T
     → ((c d : ℕ) → Referred nodes c → IsChannel rows d → (B c d → Below rows c d) × (Below rows c d → B c d))
     → (i : ℕ) (d : Document) → StandsFor nodes i d → (r : ℕ) → (FitsBy rows B d r → Fits rows d r) × (Fits rows d r → FitsBy rows B d r)
 fits_by_below rows nodes B tells i d st r = (
-  fits_within rows nodes B (Below rows) (λ c e h g. (tells c e h g).0) st,
-  fits_within rows nodes (Below rows) B (λ c e h g. (tells c e h g).1) st,
+  λ f. fits_of_by (fits_within rows nodes B (Below rows) (λ c e h g. (tells c e h g).0) st f),
+  λ f. fits_within rows nodes (Below rows) B (λ c e h g. (tells c e h g).1) st (by_of_fits f),
 )

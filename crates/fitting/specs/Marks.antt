@@ -11,7 +11,8 @@ use Rattle.documents.specs.Nodes.{StandsFor}
 use Rattle.documents.specs.declared.nodes.Node.{Node}
 use Rattle.documents.specs.declared.nodes.Node.TheVariants.{Void, Reference, Element}
 use Rattle.relation.specs.Cells.{cell}
-use Rattle.schema.specs.Rules.{OffersVoid, FitsBy}
+use Rattle.schema.specs.Rules.{OffersVoid}
+use Rattle.schema.specs.Fitting.{FitsBy}
 use Rattle.verdicts.specs.Pairs.{related}
 use Rattle.verdicts.specs.Ready.{IsElement}
 

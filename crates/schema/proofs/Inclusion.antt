@@ -27,7 +27,7 @@ abbrev pub Apart : List Row → Document → ℕ → ℕ → Type 0
 Apart rows d p q = Fits rows d p × (Fits rows d q → ⊥)
 
 module _ (rows : List Row) where
-  offers_inhabited : {p o : ℕ} → Offers rows p o → Inhabited rows o → Inhabited rows p
+  pub offers_inhabited : {p o : ℕ} → Offers rows p o → Inhabited rows o → Inhabited rows p
   offers_inhabited (itself e nu) h = h
   offers_inhabited (left e u) h = of_left e (offers_inhabited u h)
   offers_inhabited (right e u) h = of_right e (offers_inhabited u h)

@@ -9,8 +9,8 @@ pub returns : goal.returns
 returns c =
     let t = c.args.prepared.now in
     record {
-      checked = c.in-ok-check.ensures.checked;
-      marked = c.mark-nodes.ensures;
-      told = root_tells (rows_of t.table) (buffer_laws t.table).few (Among (length (rows_of t.table)) c.args.pairs.now) c.args.nodes.now c.mark-nodes.new.marks c.args.root c.args.row c.is-marked.result c.in-ok-check.ensures.checked.root_within c.mark-nodes.ensures c.is-marked.ensures;
-      length = c.mark-nodes.auto.marks;
+      checked = c.in_ok-check.ensures.checked;
+      marked = c.mark_nodes.ensures;
+      told = root_tells (rows_of t.table) (buffer_laws t.table).few (Among (length (rows_of t.table)) c.args.pairs.now) c.args.nodes.now c.mark_nodes.new.marks c.args.root c.args.row c.is_marked.result c.in_ok-check.ensures.checked.root_within c.mark_nodes.ensures c.is_marked.ensures;
+      length = c.mark_nodes.auto.marks;
     }

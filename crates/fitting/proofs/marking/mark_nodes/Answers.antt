@@ -12,7 +12,7 @@ pub loop-i-preserved : goal.loop-i-preserved
 loop-i-preserved c =
     let t = c.args.prepared.now in
     marked_more (rows_of t.table) (buffer_laws t.table).few (Among (length (rows_of t.table)) c.args.pairs.now) c.args.nodes.now c.loop-i.marks c.loop-i.i c.loop-i.invariant
-    c.requires.sound c.loop-i-test.true c.node-rows-rows.result c.write-marks.new.marks c.node-rows-rows.ensures c.write-marks.ensures
+    c.requires.sound c.loop-i-test.true c.node_rows-rows.result c.write_marks.new.marks c.node_rows-rows.ensures c.write_marks.ensures
 
 pub returns : goal.returns
 returns c = λ i h. c.loop-i.invariant i (omega arith)

@@ -7,7 +7,7 @@ use Rattle.fitting.specs.Fittable.{row_words}
 use Rattle.fitting.proofs.Bounds.{one_below}
 use Rattle.fitting.proofs.Picking.{Picked, picked_none, picked_put, picked_past, picked_all}
 use Rattle.fitting.proofs.rows.channel_rows.Goals as goal
-use Rattle.fitting.proofs.rows.channel_rows.Goals.{then-meets-channel, else-meets-channel}
+use Rattle.fitting.proofs.rows.channel_rows.Goals.{then-meets_channel, else-meets_channel}
 
 pub loop-r-init : goal.loop-r-init
 loop-r-init c = picked_none (OffersOne (rows_of c.args.prepared.now.table) c.args.some.now) max_rows row_words refl
@@ -16,11 +16,11 @@ pub loop-r-preserved : goal.loop-r-preserved
 loop-r-preserved c =
     let P : ℕ → Type 0 = OffersOne (rows_of c.args.prepared.now.table) c.args.some.now in
     let k = c.loop-r.r in
-    elim c.if-meets-channel.branch [
-      | then-meets-channel w ↦ subst (λ ws. Picked P max_rows ws (k + 1)) (sym w.rows-is)
-          (picked_put P max_rows c.loop-r.rows w.put.new.words k (omega arith) (omega arith) c.loop-r.invariant (c.meets-channel.ensures.0 w.if-meets-channel.true) w.put.auto.words w.put.ensures.within)
-      | else-meets-channel w ↦ subst (λ ws. Picked P max_rows ws (k + 1)) (sym w.rows-is)
-          (picked_past P max_rows c.loop-r.rows k c.loop-r.invariant (λ p. both_ways c.meets-channel.result w.if-meets-channel.false (c.meets-channel.ensures.1 p)))
+    elim c.if-meets_channel.branch [
+      | then-meets_channel w ↦ subst (λ ws. Picked P max_rows ws (k + 1)) (sym w.rows-is)
+          (picked_put P max_rows c.loop-r.rows w.put.new.words k (omega arith) (omega arith) c.loop-r.invariant (c.meets_channel.ensures.0 w.if-meets_channel.true) w.put.auto.words w.put.ensures.within)
+      | else-meets_channel w ↦ subst (λ ws. Picked P max_rows ws (k + 1)) (sym w.rows-is)
+          (picked_past P max_rows c.loop-r.rows k c.loop-r.invariant (λ p. both_ways c.meets_channel.result w.if-meets_channel.false (c.meets_channel.ensures.1 p)))
     ]
 
 pub returns : goal.returns

@@ -7,7 +7,7 @@ use Rattle.fitting.specs.Fittable.{row_words}
 use Rattle.fitting.proofs.Bounds.{part_below}
 use Rattle.fitting.proofs.Picking.{Picked, picked_none, picked_put, picked_past, picked_all}
 use Rattle.fitting.proofs.rows.element_rows.Goals as goal
-use Rattle.fitting.proofs.rows.element_rows.Goals.{then-meets-element, else-meets-element}
+use Rattle.fitting.proofs.rows.element_rows.Goals.{then-meets_element, else-meets_element}
 
 pub loop-r-init : goal.loop-r-init
 loop-r-init c = picked_none (OffersPart (rows_of c.args.prepared.now.table) c.args.some.now) max_rows row_words refl
@@ -16,11 +16,11 @@ pub loop-r-preserved : goal.loop-r-preserved
 loop-r-preserved c =
     let P : ℕ → Type 0 = OffersPart (rows_of c.args.prepared.now.table) c.args.some.now in
     let k = c.loop-r.r in
-    elim c.if-meets-element.branch [
-      | then-meets-element w ↦ subst (λ ws. Picked P max_rows ws (k + 1)) (sym w.rows-is)
-          (picked_put P max_rows c.loop-r.rows w.put.new.words k (omega arith) (omega arith) c.loop-r.invariant (c.meets-element.ensures.0 w.if-meets-element.true) w.put.auto.words w.put.ensures.within)
-      | else-meets-element w ↦ subst (λ ws. Picked P max_rows ws (k + 1)) (sym w.rows-is)
-          (picked_past P max_rows c.loop-r.rows k c.loop-r.invariant (λ p. both_ways c.meets-element.result w.if-meets-element.false (c.meets-element.ensures.1 p)))
+    elim c.if-meets_element.branch [
+      | then-meets_element w ↦ subst (λ ws. Picked P max_rows ws (k + 1)) (sym w.rows-is)
+          (picked_put P max_rows c.loop-r.rows w.put.new.words k (omega arith) (omega arith) c.loop-r.invariant (c.meets_element.ensures.0 w.if-meets_element.true) w.put.auto.words w.put.ensures.within)
+      | else-meets_element w ↦ subst (λ ws. Picked P max_rows ws (k + 1)) (sym w.rows-is)
+          (picked_past P max_rows c.loop-r.rows k c.loop-r.invariant (λ p. both_ways c.meets_element.result w.if-meets_element.false (c.meets_element.ensures.1 p)))
     ]
 
 pub returns : goal.returns

@@ -4,5 +4,5 @@ use Rattle.fitting.proofs.wanting.refer.Goals as goal
 pub returns-in-Reference : goal.returns-in-Reference
 returns-in-Reference c = refers_row c.args.rows.now c.put.new.words c.args.node c.in-Reference.row c.in-Reference.is c.put.ensures.within c.put.ensures.past
 
-pub returns-in-default : goal.returns-in-default
-returns-in-default c = refers_none c.args.rows.now c.args.node c.in-default.not-Reference
+pub returns-in_default : goal.returns-in_default
+returns-in_default c = refers_none c.args.rows.now c.args.node c.in_default.not-Reference
