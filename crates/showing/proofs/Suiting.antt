@@ -10,7 +10,7 @@ use Rattle.documents.specs.Nodes.StandsFor.{for_void, for_reference, for_element
 use Rattle.documents.specs.declared.nodes.Node.{Node}
 use Rattle.documents.specs.declared.nodes.Node.TheVariants as node
 use Rattle.schema.specs.Rules.{Bounded, Determined, OffersChannel, OffersElement, ◌⊑◌, Relation, Payloads, Fits}
-use Rattle.schema.specs.Rules.FitsBy.{fits_void, fits_reference, fits_element}
+use Rattle.schema.specs.Rules.Fits.{fits_void, fits_reference, fits_element}
 use Rattle.schema.proofs.Inclusion.{Apart, apart_by_void, apart_by_channel, apart_by_label, apart_by_inside, apart_by_following}
 use Rattle.schema.proofs.Kept.{small}
 use Rattle.schema.proofs.Offered.{label_below}

@@ -12,8 +12,8 @@ returns-then-place-n c = draft_row (rows_of c.args.prepared.now.table) c.args.le
 pub returns-then-not-open : goal.returns-then-not-open
 returns-then-not-open c = draft_shut (rows_of c.args.prepared.now.table) c.args.leaned.now c.args.below.now c.args.self.now.numbers c.args.place c.count-n.result c.open.result c.count-n.ensures c.if-place-n.false c.open.ensures c.if-not-open.true
 
-pub overflow-cast-k : goal.overflow-cast-k
-overflow-cast-k c =
+pub overflow_cast-k : goal.overflow_cast-k
+overflow_cast-k c =
     let t = c.args.prepared.now in
     let n = c.count-n.result in
     let k = c.args.place - n in

@@ -6,8 +6,8 @@ use Rattle.showing.specs.Drafts.Tells.{without_void, lacks_channel}
 use Rattle.showing.proofs.Made.{tells_or_not}
 use Rattle.showing.proofs.drawn.Drawn.tell.Goals as goal
 
-pub returns-then-lacks-void : goal.returns-then-lacks-void
-returns-then-lacks-void c = let (has, none) = c.lacks-void.ensures.lacks c.if-lacks-void.true in without_void has none
+pub returns-then-lacks_void : goal.returns-then-lacks_void
+returns-then-lacks_void c = let (has, none) = c.lacks_void.ensures.lacks c.if-lacks_void.true in without_void has none
 
 pub returns-in-Some : goal.returns-in-Some
 returns-in-Some c = lacks_channel c.in-Some.ensures.0 c.in-Some.ensures.1
@@ -16,7 +16,7 @@ pub returns : goal.returns
 returns c =
     let t = c.args.prepared.now in
     let rows = rows_of t.table in
-    tells_or_not rows (bounded_of t) c.args.self.now.numbers (related (length rows) c.args.below.now) c.args.p c.args.q c.tell-element.result
-    (c.lacks-void.ensures.keeps c.if-lacks-void.false)
-    c.in-default.ensures
-    c.tell-element.ensures
+    tells_or_not rows (bounded_of t) c.args.self.now.numbers (related (length rows) c.args.below.now) c.args.p c.args.q c.tell_element.result
+    (c.lacks_void.ensures.keeps c.if-lacks_void.false)
+    c.in_default.ensures
+    c.tell_element.ensures

@@ -11,7 +11,7 @@ use Rattle.showing.proofs.drawn.Drawn.visit.Goals as goal
 pub add-requires : goal.add-requires
 add-requires c =
     let rows = rows_of c.args.prepared.now.table in
-    let none : noted c.args.self.now.numbers c.args.place ≡ None = sym c.node.ensures ∙ not_some c.node.result c.is-some.result c.is-some.ensures c.if-is-some.false in
+    let none : noted c.args.self.now.numbers c.args.place ≡ None = sym c.node.ensures ∙ not_some c.node.result c.is_some.result c.is_some.ensures c.if-is_some.false in
     let less = used_less rows (related (length rows) c.args.below.now) c.args.nodes.now c.args.self.now.used c.args.self.now.numbers c.requires.holds c.args.place c.requires.within none in
     let few = places_few (length rows) (buffer_laws c.args.prepared.now.table).few in
     let room = c.requires.holds.room in
@@ -22,7 +22,7 @@ pub returns-in-Some : goal.returns-in-Some
 returns-in-Some c =
     let t = c.args.prepared.now in
     let rows = rows_of t.table in
-    let none : noted c.args.self.now.numbers c.args.place ≡ None = sym c.node.ensures ∙ not_some c.node.result c.is-some.result c.is-some.ensures c.if-is-some.false in
+    let none : noted c.args.self.now.numbers c.args.place ≡ None = sym c.node.ensures ∙ not_some c.node.result c.is_some.result c.is_some.ensures c.if-is_some.false in
     visited_by rows (related (length rows) c.args.below.now) c.args.nodes.now c.args.self.now.used c.args.self.now.numbers c.requires.holds (bounded_of t) (determined_of t) (buffer_laws t.table).few
     (related (length rows) c.args.leaned.now) c.requires.asked c.args.place c.requires.within none c.in-Some.node c.in-Some.ensures
     c.add.new.nodes c.add.new.self.used c.add.new.self.numbers c.add.ensures.nodes c.add.ensures.used c.add.ensures.numbers
