@@ -1,17 +1,19 @@
 -- What an open book answers to a call, from the rows and the pairs that it holds, and which pairs it holds then. Assumes nothing.
 use Rattle.std.specs.Prelude.{◌≡◌, ℕ, ◌+◌, ◌*◌, ◌<◌, ◌≤◌, Bool, true, ◌⊎◌, ◌↔◌, List, length, take, drop, Some, None, Decides, Option, ◌≢◌}
 use Rattle.forms.specs.Documents.{Document}
+use Rattle.forms.specs.Limits.{max_rows}
 use Rattle.forms.specs.Refusals.{Refusal, Outcome}
 use Rattle.forms.specs.Refusals.Outcome.{refuses, gives}
 use Rattle.forms.specs.Schema.{IsChannel}
 use Rattle.forms.specs.declared.Row.{Row}
 use Rattle.documents.specs.Nodes.{StandsFor}
 use Rattle.documents.specs.declared.nodes.Node.{Node}
+use Rattle.relation.specs.Cells.{cell}
 use Rattle.schema.specs.Worked.{Counts}
 use Rattle.schema.specs.Rules.{Below, Included, Fits, Leans}
 use Rattle.verdicts.specs.Pairs.{related}
 use Rattle.fitting.specs.Fittable.{Fittable, Unfit}
-use Rattle.fitting.specs.Marks.{Referred, Marked}
+use Rattle.fitting.specs.Marks.{Referred}
 use Rattle.showing.specs.Showing.{Witnesses}
 use Rattle.book.specs.Calls.{Call, Answer}
 use Rattle.book.specs.Calls.Call.{ask, offer, look_up, held, hands_out, show, fit, clear}
@@ -107,13 +109,17 @@ pub record ShowAnswered (rows : List Row) (H : Pairs) (p q : ℕ) (buffer : List
   pub shows : InTable rows p q → HeldAsNo rows H p q → length rows * (length rows + 1) ≤ length buffer →
       (k : ℕ) × (o ≡ gives k) × (k ≤ length rows * (length rows + 1)) × Witnesses rows p q (take k after) × (drop k after ≡ drop k buffer) × (length after ≡ length buffer)
 
+-- bit r of mark i is set exactly if the document of node i fits row r
+abbrev pub MarksTell : List Row → List Node → List ℕ → Type 0
+MarksTell rows nodes marks = (i : ℕ) → i < length nodes → (d : Document) → StandsFor nodes i d → (r : ℕ) → r < max_rows → Decides (cell marks i r) ((r < length rows) × Fits rows d r)
+
 -- A fit marks for each node the rows that its document fits, and says whether the root fits the row.
 pub record FitAnswered (rows : List Row) (H : Pairs) (nodes : List Node) (root row : ℕ) (marks : List ℕ) (o : Outcome (Bool × ℕ)) (after : List ℕ) : Type 0 where
   pub outside : (row < length rows → ⊥) → (o ≡ refuses (book_refusal RowOutside)) × (after ≡ marks)
   pub unfit : row < length rows → (e : Refusal) → Unfit rows nodes root (length marks) e → (o ≡ refuses e) × (after ≡ marks)
   pub fits : FitTaken rows nodes root row (length marks) →
       (yes : Bool) × (new : ℕ) × (o ≡ gives (yes, new)) × ((d : Document) → StandsFor nodes root d → Decides yes (Fits rows d row)) × Counts (length rows) (Newly rows H (fit nodes root row marks)) new
-  pub marked : FitTaken rows nodes root row (length marks) → Marked rows (Below rows) nodes after × (length after ≡ length marks)
+  pub marked : FitTaken rows nodes root row (length marks) → MarksTell rows nodes after × (length after ≡ length marks)
 
 -- What an open book that holds the pairs of H answers to a call.
 abbrev pub Answered : List Row → Pairs → Call → Answer → Type 0

@@ -21,7 +21,7 @@ returns g c =
     let from = c.args.from.now in
     let to = c.args.to.now in
     let after = c.offer.new.self in
-    let none = c.in-default.is in
+    let none = c.in_default.is in
     let moved : Carried from.ledger to.fault to.ledger (outcome c.offer.result) after.fault after.ledger = (c.told.result.now, c.told.ensures, c.offer.ensures.meets) in
     record {
       source = c.offer.ensures.source;

@@ -9,12 +9,12 @@ use Rattle.book.proofs.Facts.{kept_of}
 use Rattle.book.proofs.Settling.{grew_none, grew_same}
 use Rattle.book.proofs.ledger.Ledger.ask.Goals as goal
 
-pub returns-then-has-settled : goal.returns-then-has-settled
-returns-then-has-settled c =
+pub returns-then-has_settled : goal.returns-then-has_settled
+returns-then-has_settled c =
     let l = c.args.self.now in
     let p = c.args.pair.0 in
     let q = c.args.pair.1 in
-    let on = sym c.if-has-settled.ensures in
+    let on = sym c.if-has_settled.ensures in
     let (p<, q<, _) = between_parts (length (ledger_rows l)) (member l.settled) p q on in
     asked_done l l refl p q 0 c.verdict.result p< q< (grew_none (ledger_rows l) l.held l.yes l.settled (kept_of l) p q on) c.verdict.ensures
 

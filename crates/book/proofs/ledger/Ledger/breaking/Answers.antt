@@ -23,22 +23,22 @@ few_rows l n e = subst (λ m. m ≤ max_rows) (sym e) (buffer_laws l.prepared.ta
 low_place : (words : List ℕ) (m k : ℕ) → ((j : ℕ) → m ≤ j → member words j ≡ false) → member words k ≡ true → k < m
 low_place words m k clear on = ⊎_elim (λ h. h) (λ high. absurd (both_ways _ (clear k high) on)) (cases_lt k m)
 
-pub nonzero-div-k : goal.nonzero-div-k
-nonzero-div-k c = some_rows c.args.self.now c.count-n.result c.count-n.ensures
+pub nonzero_div-k : goal.nonzero_div-k
+nonzero_div-k c = some_rows c.args.self.now c.count-n.result c.count-n.ensures
 
-pub nonzero-rem-k : goal.nonzero-rem-k
-nonzero-rem-k c = some_rows c.args.self.now c.count-n.result c.count-n.ensures
+pub nonzero_rem-k : goal.nonzero_rem-k
+nonzero_rem-k c = some_rows c.args.self.now c.count-n.result c.count-n.ensures
 
-pub overflow-cast-k : goal.overflow-cast-k
-overflow-cast-k c =
+pub overflow_cast-k : goal.overflow_cast-k
+overflow_cast-k c =
     let l = c.args.self.now in
     let n = c.count-n.result in
     let few = few_rows l n c.count-n.ensures in
     let low = div_below c.in-Some.k n n (some_rows l n c.count-n.ensures) (subst (λ m. c.in-Some.k < m * m) (sym c.count-n.ensures) (low_place c.args.relation.now _ c.in-Some.k c.requires c.in-Some.ensures.1)) in
     omega arith
 
-pub overflow-cast-k-in-Some : goal.overflow-cast-k-in-Some
-overflow-cast-k-in-Some c =
+pub overflow_cast-k-in-Some : goal.overflow_cast-k-in-Some
+overflow_cast-k-in-Some c =
     let l = c.args.self.now in
     let n = c.count-n.result in
     let few = few_rows l n c.count-n.ensures in
@@ -80,4 +80,4 @@ pub returns : goal.returns
 returns c =
     let l = c.args.self.now in
     let words = c.args.relation.now in
-    all_keep (ledger_rows l) words (admitted_of l.prepared).some (passed_all (member words) (Stands (ledger_rows l) words) c.loop-k.from c.in-default.ensures c.loop-k.invariant)
+    all_keep (ledger_rows l) words (admitted_of l.prepared).some (passed_all (member words) (Stands (ledger_rows l) words) c.loop-k.from c.in_default.ensures c.loop-k.invariant)

@@ -14,7 +14,7 @@ pub loop-k-preserved : goal.loop-k-preserved
 loop-k-preserved c = passed_more (member c.args.pairs.now) (λ k. member c.args.self.now.settled k ≡ true) c.loop-k.from c.in-Some.k c.in-Some.ensures c.loop-k.invariant (sym c.test.ensures ∙ c.if-not-test.false)
 
 pub returns : goal.returns
-returns c = λ _. passed_all (member c.args.pairs.now) (λ k. member c.args.self.now.settled k ≡ true) c.loop-k.from c.in-default.ensures c.loop-k.invariant
+returns c = λ _. passed_all (member c.args.pairs.now) (λ k. member c.args.self.now.settled k ≡ true) c.loop-k.from c.in_default.ensures c.loop-k.invariant
 
-pub overflow-add-from : goal.overflow-add-from
-overflow-add-from c = let (_, low) = member_within c.args.pairs.now c.in-Some.k c.in-Some.ensures.1 in omega arith
+pub overflow_add-from : goal.overflow_add-from
+overflow_add-from c = let (_, low) = member_within c.args.pairs.now c.in-Some.k c.in-Some.ensures.1 in omega arith

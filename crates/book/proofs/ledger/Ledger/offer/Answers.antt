@@ -29,24 +29,24 @@ returns-in-Some-breaking c =
     let words = c.args.relation.now in
     let k = c.in-Some-breaking.k in
     subst (λ m. Done l (offer words) (offered (refuses (book_refusal (RuleBroken (k / m) (k % m))))) l) (sym c.count-n.ensures)
-    (refused_rule l words (k / length rows) (k % length rows) (shape (length rows) c.count-n.result words _ c.count-n.ensures c.if-relation-numbers-for.false c.numbers-for.ensures.is c.in-default.ensures) c.in-Some-breaking.ensures.1)
+    (refused_rule l words (k / length rows) (k % length rows) (shape (length rows) c.count-n.result words _ c.count-n.ensures c.if-relation-numbers_for.false c.numbers_for.ensures.is c.in_default.ensures) c.in-Some-breaking.ensures.1)
 
-pub invariant-of-self : goal.invariant-of-self
-invariant-of-self c =
+pub invariant_of-self : goal.invariant_of-self
+invariant_of-self c =
     let l = c.args.self.now in
     let rows = ledger_rows l in
     let words = c.args.relation.now in
-    let shaped = shape (length rows) c.count-n.result words _ c.count-n.ensures c.if-relation-numbers-for.false c.numbers-for.ensures.is c.in-default.ensures in (
-      ∣ kept_offered rows (admitted_of l.prepared).some (buffer_laws l.prepared.table).few l.held l.yes l.settled c.join-2.new.words c.join.new.words words words (kept_of l)
+    let shaped = shape (length rows) c.count-n.result words _ c.count-n.ensures c.if-relation-numbers_for.false c.numbers_for.ensures.is c.in_default.ensures in
+    record {
+      kept = ∣ kept_offered rows (admitted_of l.prepared).some (buffer_laws l.prepared.table).few l.held l.yes l.settled c.join-2.new.words c.join.new.words words words (kept_of l)
           shaped.clear shaped.clear c.join-2.ensures.members c.join.ensures.members c.join-2.auto.words c.join.auto.words
-          (λ a b h. h) c.in-default-breaking.ensures (λ a b h below. h) ∣₁,
-      tt,
-    )
+          (λ a b h. h) c.in_default-breaking.ensures (λ a b h below. h) ∣₁;
+    }
 
 pub returns : goal.returns
 returns c =
     let l = c.args.self.now in
     let rows = ledger_rows l in
     let words = c.args.relation.now in
-    let shaped = shape (length rows) c.count-n.result words _ c.count-n.ensures c.if-relation-numbers-for.false c.numbers-for.ensures.is c.in-default.ensures in
-    taken_done l words _ c.join-2.result refl (record { shaped = shaped; closed = c.in-default-breaking.ensures }) c.join-2.ensures.members c.join-2.ensures.new
+    let shaped = shape (length rows) c.count-n.result words _ c.count-n.ensures c.if-relation-numbers_for.false c.numbers_for.ensures.is c.in_default.ensures in
+    taken_done l words _ c.join-2.result refl (record { shaped = shaped; closed = c.in_default-breaking.ensures }) c.join-2.ensures.members c.join-2.ensures.new

@@ -7,19 +7,19 @@ use Rattle.book.proofs.Facts.{kept_of}
 use Rattle.book.proofs.Settling.{grew, kept_settled, narrowed_tells}
 use Rattle.book.proofs.ledger.Ledger.settle.Goals as goal
 
-pub invariant-of-self : goal.invariant-of-self
-invariant-of-self c =
+pub invariant_of-self : goal.invariant_of-self
+invariant_of-self c =
     let l = c.args.self.now in
     let rows = ledger_rows l in
     let narrowed = c.narrow.ensures in
     let more = c.args.pairs in
-    let below = c.narrow.new.pairs in (
-      ∣ kept_settled rows (admitted_of l.prepared).some (buffer_laws l.prepared.table).few l.held l.yes l.settled c.join-3.new.words c.join.new.words more below (kept_of l)
+    let below = c.narrow.new.pairs in
+    record {
+      kept = ∣ kept_settled rows (admitted_of l.prepared).some (buffer_laws l.prepared.table).few l.held l.yes l.settled c.join-3.new.words c.join.new.words more below (kept_of l)
           c.requires.clear (λ k h. narrowed.rest k h ∙ c.requires.clear k h) c.join-3.ensures.members c.join.ensures.members c.join-3.auto.words c.join.auto.words
           narrowed.largest.part narrowed.largest.closed (narrowed_tells rows (related (length rows) more) (related (length rows) below) c.requires.confined narrowed.largest)
-          c.join-2.new.words c.join-2.ensures.members c.join-2.auto.words c.requires.confined ∣₁,
-      tt,
-    )
+          c.join-2.new.words c.join-2.ensures.members c.join-2.auto.words c.requires.confined ∣₁;
+    }
 
 pub returns : goal.returns
 returns c =
