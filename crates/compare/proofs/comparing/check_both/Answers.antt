@@ -6,27 +6,27 @@ use Rattle.compare.specs.declared.faults.CompareFault.TheVariants.{Admission, Jo
 use Rattle.compare.proofs.Passing.{passed, our_table_fails, their_table_fails, joining_fails}
 use Rattle.compare.proofs.comparing.check_both.Goals as goal
 
-pub returns-in-err-admitted : goal.returns-in-err-admitted
-returns-in-err-admitted c =
+pub returns-in_err-admitted : goal.returns-in_err-admitted
+returns-in_err-admitted c =
     let a = text_rows c.args.first.now in
     let b = text_rows c.args.second.now in
-    let (side, fault) = c.in-err-admitted.field-0.0 in
-    let (same, found) = c.in-err-admitted.ensures in
-    passed _ (TablesFail a b) c.from-residual.result (Admission side fault) c.from-residual.ensures (our_table_fails a b side fault same found)
+    let (side, fault) = c.in_err-admitted.field-0.0 in
+    let (same, found) = c.in_err-admitted.ensures in
+    passed _ (TablesFail a b) c.from_residual.result (Admission side fault) c.from_residual.ensures (our_table_fails a b side fault same found)
 
-pub returns-in-err-admitted-2 : goal.returns-in-err-admitted-2
-returns-in-err-admitted-2 c =
+pub returns-in_err-admitted-2 : goal.returns-in_err-admitted-2
+returns-in_err-admitted-2 c =
     let a = text_rows c.args.first.now in
     let b = text_rows c.args.second.now in
-    let (side, fault) = c.in-err-admitted-2.field-0.0 in
-    let (same, found) = c.in-err-admitted-2.ensures in
-    passed _ (TablesFail a b) c.from-residual-in-err-admitted-2.result (Admission side fault) c.from-residual-in-err-admitted-2.ensures
-    (their_table_fails a b side fault c.in-ok-admitted.ensures same found)
+    let (side, fault) = c.in_err-admitted-2.field-0.0 in
+    let (same, found) = c.in_err-admitted-2.ensures in
+    passed _ (TablesFail a b) c.from_residual-in_err-admitted-2.result (Admission side fault) c.from_residual-in_err-admitted-2.ensures
+    (their_table_fails a b side fault c.in_ok-admitted.ensures same found)
 
-pub returns-in-err-joinable : goal.returns-in-err-joinable
-returns-in-err-joinable c =
+pub returns-in_err-joinable : goal.returns-in_err-joinable
+returns-in_err-joinable c =
     let a = text_rows c.args.first.now in
     let b = text_rows c.args.second.now in
-    let many : max_rows < length a + length b = omega (arith, c.in-err-joinable.ensures, c.count.ensures, c.count-2.ensures) in
-    passed _ (TablesFail a b) c.from-residual-in-err-joinable.result (Joining c.in-err-joinable.field-0.0) c.from-residual-in-err-joinable.ensures
-    (joining_fails a b c.in-err-joinable.field-0.0 c.in-ok-admitted.ensures c.in-ok-admitted-2.ensures many)
+    let many : max_rows < length a + length b = omega (arith, c.in_err-joinable.ensures, c.count.ensures, c.count-2.ensures) in
+    passed _ (TablesFail a b) c.from_residual-in_err-joinable.result (Joining c.in_err-joinable.field-0.0) c.from_residual-in_err-joinable.ensures
+    (joining_fails a b c.in_err-joinable.field-0.0 c.in_ok-admitted.ensures c.in_ok-admitted-2.ensures many)

@@ -20,4 +20,4 @@ returns g c =
     let long = length-take c.show-count.result c.show-count.new.nodes in
     let last = s.witnesses.is_last in
     wrote (ledger_rows l) c.args.pair.0 c.args.pair.1 (take c.show-count.result c.show-count.new.nodes) (buffer_laws l.prepared.table).few (omega (arith, s.few)) s.witnesses c.requires.no.1
-    (c.show-count.result - 1) (omega (arith, s.within)) c.args.buffer.now c.write-document.new.buffer c.write-document.result c.write-document.ensures.written
+    (c.show-count.result - 1) (omega (arith, s.within)) c.args.buffer.now c.write_document.new.buffer c.write_document.result c.write_document.ensures.written

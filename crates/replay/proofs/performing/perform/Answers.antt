@@ -10,14 +10,14 @@ use Rattle.replay.proofs.performing.perform.Goals as goal
 pub returns-in-HandOut : goal.returns-in-HandOut
 returns-in-HandOut g c =
     let b = c.args.book.now in
-    let o = outcome c.hand-out-handed.result in
-    let after = c.hand-out-handed.new.buffer in
+    let o = outcome c.hand_out-handed.result in
+    let after = c.hand_out-handed.new.buffer in
     let v = c.in-HandOut.buffer in
     record {
       source = refl;
       meets = subst (λ call. Meets b.fault b.ledger (call_of call) (handed_out o (refill after v.items v.len)) b.fault b.ledger) (sym c.in-HandOut.is)
-          (subst (λ ys. Meets b.fault b.ledger (hands_out (vec_items v)) (handed_out o ys) b.fault b.ledger) (sym (refilled after v.items v.len (c.hand-out-handed.auto.buffer ∙ c.deref-mut.ensures.len)))
-          (subst (λ xs. Meets b.fault b.ledger (hands_out xs) (handed_out o after) b.fault b.ledger) c.deref-mut.ensures.value c.hand-out-handed.ensures));
+          (subst (λ ys. Meets b.fault b.ledger (hands_out (vec_items v)) (handed_out o ys) b.fault b.ledger) (sym (refilled after v.items v.len (c.hand_out-handed.auto.buffer ∙ c.deref_mut.ensures.len)))
+          (subst (λ xs. Meets b.fault b.ledger (hands_out xs) (handed_out o after) b.fault b.ledger) c.deref_mut.ensures.value c.hand_out-handed.ensures));
     }
 
 pub returns-in-Show : goal.returns-in-Show
@@ -30,8 +30,8 @@ returns-in-Show g c =
     record {
       source = refl;
       meets = subst (λ call. Meets b.fault b.ledger (call_of call) (shown o (refill after v.items v.len)) b.fault b.ledger) (sym c.in-Show.is)
-          (subst (λ ys. Meets b.fault b.ledger (show p.0 p.1 (vec_items v)) (shown o ys) b.fault b.ledger) (sym (refilled after v.items v.len (c.show-shown.auto.nodes ∙ c.deref-mut-in-Show.ensures.len)))
-          (subst (λ xs. Meets b.fault b.ledger (show p.0 p.1 xs) (shown o after) b.fault b.ledger) c.deref-mut-in-Show.ensures.value c.show-shown.ensures));
+          (subst (λ ys. Meets b.fault b.ledger (show p.0 p.1 (vec_items v)) (shown o ys) b.fault b.ledger) (sym (refilled after v.items v.len (c.show-shown.auto.nodes ∙ c.deref_mut-in-Show.ensures.len)))
+          (subst (λ xs. Meets b.fault b.ledger (show p.0 p.1 xs) (shown o after) b.fault b.ledger) c.deref_mut-in-Show.ensures.value c.show-shown.ensures));
     }
 
 pub returns-in-Fit : goal.returns-in-Fit
@@ -46,7 +46,7 @@ returns-in-Fit g c =
     record {
       source = c.fit-fitted.ensures.source;
       meets = subst (λ call. Meets b.fault b.ledger (call_of call) (fitted o (refill after v.items v.len)) d.fault d.ledger) (sym c.in-Fit.is)
-          (subst (λ ys. Meets b.fault b.ledger (fit (vec_items c.in-Fit.nodes) root row (vec_items v)) (fitted o ys) d.fault d.ledger) (sym (refilled after v.items v.len (c.fit-fitted.auto.marks ∙ c.deref-mut-in-Fit.ensures.len)))
+          (subst (λ ys. Meets b.fault b.ledger (fit (vec_items c.in-Fit.nodes) root row (vec_items v)) (fitted o ys) d.fault d.ledger) (sym (refilled after v.items v.len (c.fit-fitted.auto.marks ∙ c.deref_mut-in-Fit.ensures.len)))
           (subst (λ xs. Meets b.fault b.ledger (fit xs root row (vec_items v)) (fitted o after) d.fault d.ledger) c.deref-in-Fit.ensures.value
-          (subst (λ ms. Meets b.fault b.ledger (fit c.deref-in-Fit.result.now root row ms) (fitted o after) d.fault d.ledger) c.deref-mut-in-Fit.ensures.value c.fit-fitted.ensures.meets)));
+          (subst (λ ms. Meets b.fault b.ledger (fit c.deref-in-Fit.result.now root row ms) (fitted o after) d.fault d.ledger) c.deref_mut-in-Fit.ensures.value c.fit-fitted.ensures.meets)));
     }
