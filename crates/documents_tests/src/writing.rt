@@ -119,7 +119,7 @@ fn a_text_longer_than_the_universe(rt: HostRuntime) -> Result<(), Fail> {
         Ok(24),
         "shared nodes are written again"
     );
-    assert!(rt; &buffer[0..25] == b"1[1[1[]],1[]],1[1[]],1[].");
+    assert!(rt; &buffer[0..25] == b"1[1[1[]],1[]],1[1[]],1[].".as_slice());
     Ok(())
 }
 
@@ -163,7 +163,7 @@ fn what_is_read_is_written_back(rt: HostRuntime) -> Result<(), Fail> {
         write_document(&nodes[0..count], count - 1, &mut buffer),
         Ok(text.len())
     );
-    assert!(rt; &buffer[0..text.len()] == text);
+    assert!(rt; &buffer[0..text.len()] == text.as_slice());
     Ok(())
 }
 

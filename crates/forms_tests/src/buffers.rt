@@ -43,6 +43,6 @@ fn a_copy_has_the_same_rows(rt: HostRuntime) {
     };
     let buffer = RowBuffer::new(&[Row::Void, element, Row::Nothing]);
     let copy = RowBuffer::of(&buffer);
-    assert!(rt; copy.rows() == &[Row::Void, element, Row::Nothing]);
+    assert!(rt; copy.rows() == [Row::Void, element, Row::Nothing].as_slice());
     assert_eq!(rt; RowBuffer::of(&RowBuffer::empty()).count(), 0);
 }

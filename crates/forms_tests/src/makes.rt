@@ -45,7 +45,7 @@ fn numbers_of_the_second_rise(rt: HostRuntime) {
         element(9, 3, 4),
         Row::Channel(Capability::Out, 2),
     ];
-    assert!(rt; RowBuffer::of(&joined).rows() == &rows);
+    assert!(rt; RowBuffer::of(&joined).rows() == rows.as_slice());
     assert_eq!(rt; joined.row(4), Some(Row::Channel(Capability::Out, 2)));
     assert_eq!(rt; joined.row(5), None);
     assert_eq!(rt; joined.row(255), None);
@@ -101,7 +101,7 @@ fn three_tables_either_way(rt: HostRuntime) {
         },
         second: pair(),
     };
-    assert!(rt; RowBuffer::of(&left).rows() == &rows);
+    assert!(rt; RowBuffer::of(&left).rows() == rows.as_slice());
     let right = Joined {
         first: pair(),
         second: Joined {
@@ -109,7 +109,7 @@ fn three_tables_either_way(rt: HostRuntime) {
             second: pair(),
         },
     };
-    assert!(rt; RowBuffer::of(&right).rows() == &rows);
+    assert!(rt; RowBuffer::of(&right).rows() == rows.as_slice());
 }
 
 #[test]
@@ -132,7 +132,7 @@ fn turning_swaps_in_and_out(rt: HostRuntime) {
     assert_eq!(rt; turned.row(7), None);
     assert!(rt; &RowBuffer::of(&turned).rows()[2..7] == &rows[2..7]);
     let twice = Turned { source: turned };
-    assert!(rt; RowBuffer::of(&twice).rows() == &rows);
+    assert!(rt; RowBuffer::of(&twice).rows() == rows.as_slice());
 }
 
 #[test]
@@ -149,5 +149,5 @@ fn turned_and_joined(rt: HostRuntime) {
         Row::Channel(Capability::Out, 3),
         Row::Void,
     ];
-    assert!(rt; RowBuffer::of(&joined).rows() == &rows);
+    assert!(rt; RowBuffer::of(&joined).rows() == rows.as_slice());
 }

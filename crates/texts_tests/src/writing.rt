@@ -135,7 +135,7 @@ fn room(rt: HostRuntime) -> Result<(), Fail> {
     refused(&rt, &[Row::Union(0, 63)], &mut short, RowsFault::NoRoom)?;
     let mut exact = [0u8; 8];
     let n = write_rows(&RowBuffer::new(&[Row::Union(0, 63)]), &mut exact)?;
-    assert!(rt; n == 8 && &exact[..] == b"U,,0,63\n");
+    assert!(rt; n == 8 && &exact[..] == b"U,,0,63\n".as_slice());
     Ok(())
 }
 
@@ -150,7 +150,7 @@ fn longest(rt: HostRuntime) -> Result<(), Fail> {
     refused(&rt, &rows, &mut short, RowsFault::NoRoom)?;
     let mut exact = [0u8; 1600];
     let n = write_rows(&RowBuffer::new(&rows), &mut exact)?;
-    assert!(rt; n == 1600 && &exact[1575..1600] == b"E,0000000000000007,63,63\n");
+    assert!(rt; n == 1600 && &exact[1575..1600] == b"E,0000000000000007,63,63\n".as_slice());
     Ok(())
 }
 
