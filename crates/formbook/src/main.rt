@@ -16,19 +16,14 @@ mod telling;
 
 const USAGE: &str = "formbook: tables of forms, and the orders that fit them
 
-  formbook button OURS P THEIRS:Q...  for each factory: GREEN if it can read every order of our row P by its row Q, else GREY
-                                      with an order that it could not read
-  formbook compare OURS THEIRS P Q [--turn]
-                                      the same for one factory; --turn swaps in and out in theirs
-  formbook check TABLE...             says what each row of a table is, or why the table is refused
-  formbook join OURS THEIRS [--turn]  prints two tables side by side as one; --turn swaps in and out in theirs
-  formbook verdicts TABLE...          prints for each two rows whether all orders of the first fit the second
-  formbook order TEXT                 prints an order as a tree and as its table of nodes
-  formbook replay TABLE SCRIPT        makes a book over a table, performs the calls in a file, one a line, and prints the answers
-  formbook batch FILE                 runs the commands in a file, one a line
+  formbook check TABLE...          says what each row of a table is, or why the table is refused
+  formbook join OURS THEIRS [--turn]
+                                   prints two tables side by side as one; --turn swaps in and out in theirs
+  formbook verdicts TABLE...       prints for each two rows whether all orders of the first fit the second
+  formbook order TEXT              prints an order as a tree and as its table of nodes
+  formbook batch FILE              runs the commands in a file, one a line
 
-A TABLE, OURS and THEIRS are files of row text (docs/FORMATS.md has the formats, docs/REFUSALS.md the refusals, docs/CALLS.md
-the calls on a book); P and Q are row numbers.
+A TABLE is a file of row text (docs/FORMATS.md has the formats, docs/REFUSALS.md the refusals).
 ";
 
 fn usage(rt: &HostRuntime) -> anyhow::Result<()> {

@@ -361,7 +361,7 @@ fn main(rt: HostRuntime) -> anyhow::Result<()> {
         "stack-read" | "stack-row" | "stack-deep" => stack(&rt, word.as_str()),
         _ => {
             println!(rt;
-                "measure rows | documents | verdicts TABLE... | books TABLE... | stack-read | stack-row | stack-deep | stack-ask TABLE... | stack-show TABLE..."
+                "measure rows | documents | verdicts TABLE... | stack-read | stack-row | stack-deep"
             )?;
             Ok(())
         }

@@ -1,8 +1,8 @@
 use Rattle.std.proofs.Common.{◌≤◌}
 use Rattle.formbook.proofs.ordering.+print_tree.Given as goal
 
-abbrev pub decreases-print-tree : goal.decreases-print-tree
-decreases-print-tree l = l.root
+abbrev pub decreases-print_tree : goal.decreases-print_tree
+decreases-print_tree l = l.root
 
 abbrev pub invariant-loop-k : goal.invariant-loop-k
 invariant-loop-k l = l.k ≤ l.root
