@@ -1,5 +1,5 @@
 -- A table of one void row has no fault. Assumes nothing.
-use Rattle.std.proofs.Common.{◌≡◌, ℕ, zero, suc, List, [], ◌∷◌, length, Some, sym, subst, arith}
+use Rattle.std.proofs.Common.{◌≡◌, ℕ, zero, suc, [], ◌∷◌, Some, sym, subst, arith}
 use Rattle.std.specs.List.{slice_get}
 use Rattle.forms.specs.Refusals.{Refusal}
 use Rattle.forms.specs.Rows.{NumbersBelow}

@@ -1,7 +1,6 @@
 -- What an open book does at a fit. Assumes nothing.
-use Rattle.std.proofs.Common.{◌≡◌, ℕ, ◌<◌, Bool, true, ◌⊎◌, List, length, Decides, sym, refl, subst, inl, inr, ⊎_elim}
+use Rattle.std.proofs.Common.{◌≡◌, ℕ, ◌<◌, Bool, List, length, Decides, refl, subst, inl, ⊎_elim}
 use Rattle.forms.specs.Buffers.{rows_of}
-use Rattle.forms.specs.Documents.{Document}
 use Rattle.forms.specs.Refusals.{Refusal, Outcome}
 use Rattle.forms.specs.Refusals.Outcome.{refuses, gives}
 use Rattle.forms.specs.Schema.{IsChannel}
@@ -16,12 +15,12 @@ use Rattle.fitting.specs.Fittable.{Fittable, Unfit}
 use Rattle.fitting.specs.Marks.{Referred, Among, Marked, TellsRoot}
 use Rattle.fitting.proofs.Fitted.{fits_by_below}
 use Rattle.fitting.proofs.Refusing.{fittable_or_one_fault}
-use Rattle.book.specs.Answers.{Adds, FitAnswered}
+use Rattle.book.specs.Answers.{Adds}
 use Rattle.book.specs.Calls.Answer.{fitted}
 use Rattle.book.specs.Calls.Call.{fit}
 use Rattle.book.specs.Doing.{Done}
 use Rattle.book.specs.Keeping.{Grew}
-use Rattle.book.specs.Ledgers.{ledger_rows, Holds}
+use Rattle.book.specs.Ledgers.{ledger_rows}
 use Rattle.book.specs.declared.ledger.Ledger.{Ledger}
 use Rattle.book.proofs.Asking.{kept_then, held_more, newly}
 use Rattle.book.proofs.Telling.{nothing_done}

@@ -1,5 +1,5 @@
 -- Opening, clearing, and taking in a relation. Assumes nothing.
-use Rattle.std.proofs.Common.{◌≡◌, ℕ, ◌+◌, ◌*◌, ◌/◌, ◌%◌, ◌<◌, ◌≤◌, Bool, true, false, not, ◌&&◌, ◌⊎◌, List, length, replicate, Decides, sym, refl, ap, ◌∙◌, subst, subst₂, inl, inr, ⊎_elim, arith}
+use Rattle.std.proofs.Common.{◌≡◌, ℕ, ◌+◌, ◌*◌, ◌/◌, ◌%◌, ◌<◌, true, false, not, ◌&&◌, List, length, replicate, sym, refl, ap, ◌∙◌, subst, subst₂, ⊎_elim, arith}
 use lib.ListN.{length-replicate}
 use Rattle.std.proofs.lemmas.Nat.{div-add-mod', div_below, mod_below}
 use Rattle.std.proofs.lemmas.Bool.{both_ways, cases_Bool, cases_order}
@@ -15,14 +15,14 @@ use Rattle.schema.proofs.Findings.{never}
 use Rattle.verdicts.specs.Facts.{admitted_of}
 use Rattle.verdicts.specs.Pairs.{related}
 use Rattle.verdicts.proofs.Deciding.{between_parts, between_from, place_div, place_mod}
-use Rattle.book.specs.Answers.{Answered, OfferAnswered}
+use Rattle.book.specs.Answers.{OfferAnswered}
 use Rattle.book.specs.Calls.Answer.{offered, cleared}
 use Rattle.book.specs.Calls.Call.{offer, clear}
 use Rattle.book.specs.Doing.{Done}
 use Rattle.book.specs.Faults.{book_refusal}
-use Rattle.book.specs.Keeping.{PairSet, Kept, Grew}
+use Rattle.book.specs.Keeping.{PairSet, Kept}
 use Rattle.book.specs.Ledgers.{ledger_rows, Holds}
-use Rattle.book.specs.Relations.{words_for, WellShaped, Consistent, Breaks}
+use Rattle.book.specs.Relations.{WellShaped, Consistent, Breaks}
 use Rattle.book.specs.declared.ledger.Ledger.{Ledger}
 use Rattle.book.specs.declared.types.BookFault.TheVariants.{RuleBroken}
 use Rattle.book.proofs.Asking.{held_more, newly}

@@ -1,5 +1,5 @@
 -- One call more keeps the law over runs. Assumes nothing.
-use Rattle.std.proofs.Common.{◌≡◌, ℕ, zero, suc, ◌+◌, ◌*◌, ◌<◌, ◌≤◌, Bool, true, false, ◌⊎◌, List, [], ◌∷◌, ◌++◌, length, take, Some, None, Decides, Option, sym, refl, ap, ◌∙◌, subst, inl, inr, ⊎_elim, arith, length-append}
+use Rattle.std.proofs.Common.{◌≡◌, ℕ, zero, suc, ◌+◌, ◌*◌, ◌<◌, ◌≤◌, Bool, true, false, ◌⊎◌, List, [], ◌∷◌, ◌++◌, length, take, Some, Decides, sym, refl, ap, ◌∙◌, subst, inl, inr, ⊎_elim, arith, length-append}
 use Rattle.std.specs.List.{slice_get}
 use Rattle.std.proofs.lemmas.List.{take_all, take-append-le}
 use Rattle.std.proofs.lemmas.Bool.{cases_lt}
@@ -11,12 +11,11 @@ use Rattle.documents.specs.declared.nodes.Node.{Node}
 use Rattle.schema.specs.Worked.{Counts}
 use Rattle.schema.specs.Rules.Leans.{on_itself}
 use Rattle.schema.proofs.Findings.{never}
-use Rattle.fitting.specs.Fittable.{Fittable}
 use Rattle.fitting.proofs.Refusing.{fittable_or_one_fault}
 use Rattle.book.specs.Answers.{Pairs, InTable, Adds, Leaves, After, Newly, Answered, AskAnswered, OfferAnswered, FitAnswered, FitTaken}
 use Rattle.book.specs.Books.{ShutAnswered}
 use Rattle.book.specs.Calls.{Call, Answer}
-use Rattle.book.specs.Calls.Answer.{asked, offered, looked_up, counted, handed_out, shown, fitted, cleared}
+use Rattle.book.specs.Calls.Answer.{asked, offered, counted, fitted}
 use Rattle.book.specs.Calls.Call.{ask, offer, look_up, held, hands_out, show, fit, clear}
 use Rattle.book.specs.Runs.{HeldAfter, NoPair, HeldBy, with_answer, reported, OpenRun, ShutRun}
 use Rattle.book.specs.declared.types.Verdict.{Verdict}

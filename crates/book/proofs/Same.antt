@@ -1,8 +1,8 @@
 -- What is answered and what is held after a call depend only on which pairs are held. Assumes nothing.
-use Rattle.std.proofs.Common.{◌≡◌, ℕ, ◌⊎◌, List, length, inl, inr, ⊎_elim}
+use Rattle.std.proofs.Common.{ℕ, List, length, inl, inr, ⊎_elim}
 use Rattle.forms.specs.declared.Row.{Row}
 use Rattle.schema.specs.Worked.{Counts}
-use Rattle.book.specs.Answers.{Pairs, After, Newly, HeldAsYes, HeldAsNo, Answered}
+use Rattle.book.specs.Answers.{Pairs, After, Newly, Answered}
 use Rattle.book.specs.Calls.{Call, Answer}
 use Rattle.book.specs.Calls.Call.{ask, offer, look_up, held, hands_out, show, fit, clear}
 use Rattle.book.proofs.Counting.{counts_same}

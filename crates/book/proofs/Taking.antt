@@ -1,5 +1,5 @@
 -- What one book holds as yes is taken by another over equal rows. Assumes nothing.
-use Rattle.std.proofs.Common.{◌≡◌, ℕ, true, List, length, Some, None, Option, sym, refl, ap, ◌∙◌, subst, inl}
+use Rattle.std.proofs.Common.{◌≡◌, ℕ, true, List, length, Some, None, Option, sym, ap, ◌∙◌, subst, inl}
 use Rattle.sets.specs.Sets.{member}
 use Rattle.forms.specs.Refusals.{Outcome}
 use Rattle.forms.specs.Refusals.Outcome.{refuses, gives}
@@ -12,7 +12,6 @@ use Rattle.schema.proofs.Findings.{never}
 use Rattle.verdicts.proofs.Deciding.{between_parts}
 use Rattle.verdicts.specs.Pairs.{related}
 use Rattle.book.specs.Answers.{InTable, HeldAsYes}
-use Rattle.book.specs.Books.{Meets}
 use Rattle.book.specs.Calls.Answer.{offered}
 use Rattle.book.specs.Calls.Call.{offer}
 use Rattle.book.specs.Carrying.{Over, Told, Carried, TakenOver}

@@ -1,7 +1,7 @@
 -- What an open book tells without a change. Assumes nothing.
 use Rattle.std.proofs.Common.{◌≡◌, ℕ, ◌+◌, ◌-◌, ◌*◌, ◌/◌, ◌%◌, ◌<◌, ◌≤◌, true, cond, ◌&&◌, ltb, List, length, get_or, take, Some, Decides, sym, refl, ap, ◌∙◌, inr, ⊎_elim, arith, length-take, get_or-take}
 use Rattle.std.proofs.lemmas.Nat.{mul-le}
-use Rattle.std.proofs.lemmas.Bool.{both_ways, cases_Bool, cases_lt, cond-true, cond-false}
+use Rattle.std.proofs.lemmas.Bool.{cases_Bool, cases_lt, cond-true, cond-false}
 use Rattle.sets.specs.Sets.{member, tally, word, bit}
 use Rattle.sets.proofs.Members.{member_at, member_past}
 use Rattle.forms.specs.Limits.{max_rows}

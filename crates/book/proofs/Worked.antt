@@ -1,11 +1,11 @@
 -- What an empty book answers in the worked cases follows from what holds of the worked table. Assumes nothing.
-use Rattle.std.proofs.Common.{◌≡◌, ℕ, ◌+◌, ◌*◌, ◌<◌, true, ◌&&◌, eqb, ◌⊎◌, List, [], ◌∷◌, length, take, sym, refl, ap, ◌∙◌, subst, inl, inr, ⊎_elim, arith}
+use Rattle.std.proofs.Common.{◌≡◌, ℕ, ◌+◌, ◌*◌, ◌<◌, eqb, List, [], ◌∷◌, length, take, sym, refl, ap, ◌∙◌, subst, inl, ⊎_elim, arith}
 use Rattle.std.specs.List.{AllByRecursion}
 use Rattle.std.proofs.ByRecursion.{All-weaker}
 use Rattle.std.proofs.lemmas.Bool.{and_parts, and_from, eqb-true, eq-eqb, cases_lt}
 use Rattle.forms.specs.Documents.{Document}
 use Rattle.forms.specs.Refusals.{Outcome}
-use Rattle.forms.specs.Refusals.Outcome.{refuses, gives}
+use Rattle.forms.specs.Refusals.Outcome.{gives}
 use Rattle.documents.specs.Nodes.{StandsFor, SoundOver}
 use Rattle.documents.specs.Nodes.StandsFor.{for_void, for_reference, for_element}
 use Rattle.documents.specs.declared.nodes.Node.{Node}
@@ -19,10 +19,10 @@ use Rattle.schema.proofs.Findings.{never}
 use Rattle.schema.proofs.Order.{keeps_more}
 use Rattle.schema.proofs.Worked.{worked_cases}
 use Rattle.showing.specs.Showing.{Witnesses}
-use Rattle.book.specs.Answers.{InTable, After, Newly, Answered}
+use Rattle.book.specs.Answers.{InTable, After, Answered}
 use Rattle.book.specs.Calls.{Answer}
-use Rattle.book.specs.Calls.Answer.{asked, offered, shown}
-use Rattle.book.specs.Calls.Call.{ask, offer, show}
+use Rattle.book.specs.Calls.Answer.{asked, offered}
+use Rattle.book.specs.Calls.Call.{ask}
 use Rattle.book.specs.Runs.{NoPair}
 use Rattle.book.specs.Worked.{Says, ShowsOnly, OnBook, WorkedOnBooks}
 use Rattle.book.specs.declared.types.Verdict.{Verdict}

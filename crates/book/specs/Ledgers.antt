@@ -1,5 +1,5 @@
 -- What an open book holds, and that what its ghost field holds as a mere fact can be had. Assumes nothing.
-use Rattle.std.specs.Prelude.{◌≡◌, ℕ, ◌<◌, Bool, true, List, length}
+use Rattle.std.specs.Prelude.{◌≡◌, ℕ, true, List, length}
 use Rattle.forms.specs.Buffers.{rows_of}
 use Rattle.forms.specs.declared.Row.{Row}
 use Rattle.schema.specs.Rules.{Relation}

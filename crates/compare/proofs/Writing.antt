@@ -1,5 +1,5 @@
 -- An order that tells two rows apart, written as text. Assumes nothing.
-use Rattle.std.proofs.Common.{◌≡◌, ℕ, ◌+◌, ◌-◌, ◌*◌, ◌<◌, ◌≤◌, min, List, length, Ok, Err, Result, sym, refl, ap, ◌∙◌, subst, arith}
+use Rattle.std.proofs.Common.{◌≡◌, ℕ, ◌+◌, ◌*◌, ◌<◌, ◌≤◌, min, List, length, Ok, Err, Result, sym, refl, ap, ◌∙◌, subst, arith}
 use Rattle.forms.specs.Documents.{Document}
 use Rattle.forms.specs.Documents.Document.{void, reference, element}
 use Rattle.forms.specs.Limits.{max_rows}

@@ -13,15 +13,7 @@ use comparing::{compared, number};
 // Whether every order that fits row p of our table fits row q of theirs, which is turned unless t is 0. The tables are
 // texts, and the answer is one number: 0 for yes; 1 + 65,536 × n for no, where the first n bytes of the buffer are the text
 // of an order that fits the one and not the other; else code + 256 × layer + 65,536 × place of the first fault.
-#[unsafe(no_mangle)]
-pub extern "C" fn compare(
-    ours: &[u8],
-    theirs: &[u8],
-    p: u64,
-    q: u64,
-    t: u64,
-    buffer: &mut [u8],
-) -> u64
+pub fn compare(ours: &[u8], theirs: &[u8], p: u64, q: u64, t: u64, buffer: &mut [u8]) -> u64
     ensures compares { Compares ours.now theirs.now p q t buffer.old buffer.new result }
     ensures laws { (OneFault) × ((FaultOrAnswer) × ((OneMeaning) × ((JoinedIsAdmitted) × (TurnedIsAdmitted)))) }
 {

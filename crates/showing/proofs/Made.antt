@@ -11,7 +11,6 @@ use Rattle.sets.proofs.Words.{differ, bit_of_and, bit_of_xor}
 use Rattle.forms.specs.Limits.{label_count}
 use Rattle.forms.specs.Rows.{belongs}
 use Rattle.forms.specs.declared.Row.{Row}
-use Rattle.forms.specs.declared.Row.TheVariants as row
 use Rattle.forms.proofs.Findings.{never}
 use Rattle.documents.specs.declared.nodes.Node.{Node}
 use Rattle.documents.specs.declared.nodes.Node.TheVariants as node

@@ -1,5 +1,5 @@
 -- A node that was drafted for a place stands for a document for it. Assumes nothing.
-use Rattle.std.proofs.Common.{◌≡◌, ℕ, ◌+◌, ◌<◌, true, List, [], ◌∷◌, ◌++◌, length, Some, refl, subst, subst₂, arith}
+use Rattle.std.proofs.Common.{◌≡◌, ℕ, ◌<◌, true, List, [], ◌∷◌, ◌++◌, length, Some, refl, subst, subst₂, arith}
 use Rattle.forms.specs.Schema.{IsChannel}
 use Rattle.forms.specs.Rows.{belongs}
 use Rattle.forms.specs.Documents.{Document}

@@ -1,9 +1,9 @@
-use Rattle.std.proofs.Common.{◌≡◌, vec_items, sym, refl, ◌∙◌, subst}
+use Rattle.std.proofs.Common.{vec_items, sym, refl, ◌∙◌, subst}
 use Rattle.book.specs.Books.{Meets}
 use Rattle.book.specs.Calls.Answer.{handed_out, shown, fitted}
 use Rattle.book.specs.Calls.Call.{hands_out, show, fit}
 use Rattle.book.specs.Faults.{outcome}
-use Rattle.replay.specs.Exchanges.{call_of, answer_of}
+use Rattle.replay.specs.Exchanges.{call_of}
 use Rattle.replay.proofs.Buffers.{refill, refilled}
 use Rattle.replay.proofs.performing.perform.Goals as goal
 

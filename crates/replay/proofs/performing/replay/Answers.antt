@@ -1,6 +1,6 @@
 use Rattle.std.proofs.Common.{◌≡◌, [], ◌++◌, map, length, vec_items, sym, refl, ap, ◌∙◌, subst, append_assoc, append-nil, arith}
 use Rattle.std.specs.Vec.Iter.{into_iter_items}
-use Rattle.std.proofs.lemmas.List.{nil_from_length, map_push}
+use Rattle.std.proofs.lemmas.List.{nil_from_length}
 use Rattle.book.specs.Books.{Made}
 use Rattle.book.specs.Runs.{Law}
 use Rattle.replay.specs.Exchanges.{call_of, answer_of}

@@ -8,7 +8,7 @@ use Rattle.book.specs.Calls.Call.{offer}
 use Rattle.book.specs.Doing.{Done}
 use Rattle.book.specs.Faults.{book_refusal}
 use Rattle.book.specs.Ledgers.{ledger_rows}
-use Rattle.book.specs.Relations.{words_for, WellShaped, Consistent}
+use Rattle.book.specs.Relations.{words_for, WellShaped}
 use Rattle.book.specs.declared.types.BookFault.TheVariants.{RuleBroken}
 use Rattle.book.proofs.Facts.{kept_of}
 use Rattle.book.proofs.Offering.{refused_rule, taken_done}

@@ -1,4 +1,4 @@
-use Rattle.std.proofs.Common.{◌+◌, ◌*◌, ◌<◌, ◌≤◌, length, sym, subst, arith}
+use Rattle.std.proofs.Common.{◌+◌, ◌*◌, ◌<◌, ◌≤◌, length, subst, arith}
 use Rattle.book.proofs.Witnessing.{show_yes, show_few, held_as_no}
 use Rattle.book.proofs.ledger.Ledger.show.Goals as goal
 

@@ -1,4 +1,4 @@
-use Rattle.std.proofs.Common.{refl, arith, rules}
+use Rattle.std.proofs.Common.{refl, arith}
 use Rattle.std.proofs.lemmas.Nat.{mul-le}
 use Rattle.forms.specs.Limits.{max_rows}
 use Rattle.book.proofs.ledger.telling.numbers_for.Goals as goal
