@@ -22,7 +22,7 @@ pub(crate) fn void_rows(prepared: &Prepared) -> [u64; ROW_WORDS]
     let mut rows = [0; ROW_WORDS];
     let n = row_count(prepared);
     for r in 0..n {
-        if prepared.offers_void(r as u8) {
+        if prepared.gives_void(r as u8) {
             sets::put(&mut rows, r);
         }
     }

@@ -9,5 +9,6 @@ pub mod Verdicts
 pub mod Pending
 pub mod Naming
 pub mod Leaning
+pub mod LeanedFrom
 pub mod Reading
 pub mod Meeting

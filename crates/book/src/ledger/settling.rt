@@ -48,7 +48,7 @@ impl Ledger {
         if pair.0 as usize >= n || pair.1 as usize >= n {
             return Err(BookFault::RowOutside);
         }
-        let leaned = self.prepared.leaned(pair);
+        let leaned = self.prepared.leaned_once(pair);
         let new = self.settle(leaned);
         Ok((self.verdict(pair), new))
     }

@@ -42,7 +42,7 @@ fn lacks_void(prepared: &Prepared, p: u8, q: u8) -> bool
     ensures lacks { result ≡ true → OffersVoid (rows_of prepared.now.table) p × (OffersVoid (rows_of prepared.now.table) q → ⊥) }
     ensures keeps { result ≡ false → OffersVoid (rows_of prepared.now.table) p → OffersVoid (rows_of prepared.now.table) q }
 {
-    prepared.offers_void(p) && !prepared.offers_void(q)
+    prepared.gives_void(p) && !prepared.gives_void(q)
 }
 
 // A channel row that row p offers and row q does not take within the set of pairs.
@@ -191,7 +191,7 @@ impl Drawn {
     fn light(&self, prepared: &Prepared, r: u8) -> Option<Node>
         ensures { MatchOption result (Unlit (rows_of prepared.now.table) self.now.numbers r) (λ v. Lights (rows_of prepared.now.table) self.now.numbers r v) }
     {
-        if prepared.offers_void(r) {
+        if prepared.gives_void(r) {
             return Some(Node::Void);
         }
         if let Some(c) = prepared.next_channel(r, 0) {

@@ -119,7 +119,7 @@ impl Prepared {
     }
 
     // Whether row p offers a void row.
-    pub(crate) fn has_void(&self, p: u8) -> bool
+    pub(crate) fn offers_void(&self, p: u8) -> bool
         ensures { Decides result ((o : ℕ) × (in_row self.now.voids p o ≡ true)) }
     {
         match next_in_row(&self.voids, p, 0) {
@@ -217,8 +217,8 @@ impl Prepared {
     fn voids_kept(&self, p: u8, q: u8) -> bool
         ensures { Decides result (((o : ℕ) × (in_row self.now.voids p o ≡ true)) → (o : ℕ) × (in_row self.now.voids q o ≡ true)) }
     {
-        if self.has_void(p) {
-            self.has_void(q)
+        if self.offers_void(p) {
+            self.offers_void(q)
         } else {
             true
         }

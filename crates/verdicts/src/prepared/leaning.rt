@@ -137,7 +137,47 @@ impl Prepared {
         }
     }
 
-    // The same for row c, unless that was done before. What was done is in `met`.
+    // Notes the pairs that the rules name for the rows in the set of row p and those in the set of row q.
+    fn name_sets(&self, cells: &[u64], done: &[u64], pending: &mut [u64], pair: (u8, u8))
+        requires { word * length pending.old ≡ max_rows * max_rows }
+        ensures { Pended (NamedAmong (rows_of self.now.table) (in_row cells.now pair.0) (in_row cells.now pair.1)) done.now pending.old pending.new }
+    {
+        let mut from = 0;
+        while let Some(c) = next_in_row(cells, pair.0, from) {
+            self.name_row(cells, done, pending, self.table.row(c), pair.1);
+            from = c + 1;
+        }
+    }
+
+    // Notes the pairs that the rules name for a pair.
+    fn name_pair(&self, done: &[u64], pending: &mut [u64], pair: (u8, u8))
+        requires { word * length pending.old ≡ max_rows * max_rows }
+        ensures { Pended (NamedFor (rows_of self.now.table) pair.0 pair.1) done.now pending.old pending.new }
+    {
+        self.name_sets(&self.channels, done, pending, pair);
+        self.name_sets(&self.elements, done, pending, pair);
+    }
+
+    // The pairs that a pair of rows leans on; none, if it is no pair of rows.
+    pub fn leaned(&self, pair: (u8, u8)) -> [u64; PAIR_WORDS]
+        ensures leans { pair.0 < length (rows_of self.now.table) → pair.1 < length (rows_of self.now.table) → (a b : ℕ) → Decides (related (length (rows_of self.now.table)) result a b) (Leans (rows_of self.now.table) pair.0 pair.1 a b) }
+        ensures confined { Confined (rows_of self.now.table) (related (length (rows_of self.now.table)) result) }
+        ensures outside { (length (rows_of self.now.table) ≤ pair.0) ⊎ (length (rows_of self.now.table) ≤ pair.1) → (k : ℕ) → member result k ≡ false }
+        ensures rest { (k : ℕ) → length (rows_of self.now.table) * length (rows_of self.now.table) ≤ k → member result k ≡ false }
+    {
+        let n = self.count();
+        let mut done = [0; PAIR_WORDS];
+        let mut pending = [0; PAIR_WORDS];
+        pend(&done, &mut pending, self.place(Some(pair)));
+        while let Some(k) = sets::next(&pending, 0) {
+            sets::remove(&mut pending, k);
+            sets::put(&mut done, k);
+            self.name_pair(&done, &mut pending, ((k / n) as u8, (k % n) as u8));
+        }
+        done
+    }
+
+    // Notes the pairs that the rules name for row c and those in the set of row q, unless that was done before. What was done is in `met`.
     fn name_once(
         &self,
         cells: &[u64],
@@ -161,8 +201,8 @@ impl Prepared {
         }
     }
 
-    // Notes the pairs that the rules name for the rows in the set of row p and those in the set of row q.
-    fn name_sets(
+    // Notes the pairs that the rules name for the rows in the set of row p and those in the set of row q, each row and set once.
+    fn name_sets_once(
         &self,
         cells: &[u64],
         done: &[u64],
@@ -185,7 +225,7 @@ impl Prepared {
     }
 
     // Notes the pairs that the rules name for a pair. What was done for channels and for elements is in `links` and `parts`.
-    fn name_pair(
+    fn name_pair_once(
         &self,
         done: &[u64],
         pending: &mut [u64],
@@ -200,8 +240,8 @@ impl Prepared {
         ensures pended { Pended (NamedFor (rows_of self.now.table) pair.0 pair.1) done.now pending.old pending.new }
         ensures noted { Noted (rows_of self.now.table) self.now.channels links.new done.now pending.new × Noted (rows_of self.now.table) self.now.elements parts.new done.now pending.new }
     {
-        self.name_sets(&self.channels, done, pending, links, pair);
-        self.name_sets(&self.elements, done, pending, parts, pair);
+        self.name_sets_once(&self.channels, done, pending, links, pair);
+        self.name_sets_once(&self.elements, done, pending, parts, pair);
     }
 
     // The lowest pair that is pending, by its place.
@@ -229,7 +269,7 @@ impl Prepared {
         while let Some(k) = self.lowest(&pending) {
             sets::remove(&mut pending, k);
             sets::put(&mut done, k);
-            self.name_pair(
+            self.name_pair_once(
                 &done,
                 &mut pending,
                 &mut links,
@@ -251,8 +291,8 @@ impl Prepared {
         pairs
     }
 
-    // The pairs that a pair of rows leans on; none, if it is no pair of rows.
-    pub fn leaned(&self, pair: (u8, u8)) -> [u64; PAIR_WORDS]
+    // The pairs that a pair of rows leans on, found by going through each row against each set once; none, if it is no pair of rows.
+    pub fn leaned_once(&self, pair: (u8, u8)) -> [u64; PAIR_WORDS]
         ensures leans { pair.0 < length (rows_of self.now.table) → pair.1 < length (rows_of self.now.table) → (a b : ℕ) → Decides (related (length (rows_of self.now.table)) result a b) (Leans (rows_of self.now.table) pair.0 pair.1 a b) }
         ensures confined { Confined (rows_of self.now.table) (related (length (rows_of self.now.table)) result) }
         ensures outside { (length (rows_of self.now.table) ≤ pair.0) ⊎ (length (rows_of self.now.table) ≤ pair.1) → (k : ℕ) → member result k ≡ false }

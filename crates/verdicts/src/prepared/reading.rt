@@ -22,10 +22,10 @@ impl Prepared {
     }
 
     // Whether row p offers a void row.
-    pub fn offers_void(&self, p: u8) -> bool
+    pub fn gives_void(&self, p: u8) -> bool
         ensures { Decides result (OffersVoid (rows_of self.now.table) p) }
     {
-        self.has_void(p)
+        self.offers_void(p)
     }
 
     // The first channel row, not before the start, that row p offers.

@@ -20,11 +20,19 @@ use relation::analysis::Analysis;
 use relation::offering::{CELL_WORDS, ROW_WORDS};
 use sets;
 
+// Whether row p offers row o, which is inhabited and of that sort.
+fn picks(table: &RowBuffer, analysis: &Analysis, kind: Kind, p: u8, o: u8) -> bool
+    ensures { result ≡ picked (rows_of table.now) analysis.now kind p o }
+{
+    analysis.offers(p, o) && analysis.is_inhabited(o) && is_kind(kind, table.row(o))
+}
+
 // Whether row o is inhabited and of that sort.
 fn is_sort(table: &RowBuffer, analysis: &Analysis, kind: Kind, o: u8) -> bool
     ensures { result ≡ of_sort (rows_of table.now) analysis.now kind o }
 {
-    analysis.is_inhabited(o) && is_kind(kind, table.row(o))
+    let row = table.row(o);
+    analysis.is_inhabited(o) && is_kind(kind, row)
 }
 
 // The inhabited rows of that sort.

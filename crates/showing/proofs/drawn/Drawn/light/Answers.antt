@@ -6,8 +6,8 @@ use Rattle.showing.specs.Drafts.Lights.{by_void, by_channel}
 use Rattle.showing.proofs.Made.{lights_or_not}
 use Rattle.showing.proofs.drawn.Drawn.light.Goals as goal
 
-pub returns-then-offers_void : goal.returns-then-offers_void
-returns-then-offers_void c = by_void (c.offers_void.ensures.0 c.if-offers_void.true)
+pub returns-then-gives_void : goal.returns-then-gives_void
+returns-then-gives_void c = by_void (c.gives_void.ensures.0 c.if-gives_void.true)
 
 pub returns-in-Some : goal.returns-in-Some
 returns-in-Some c = by_channel c.in-Some.ensures.1
@@ -16,6 +16,6 @@ pub returns : goal.returns
 returns c =
     let t = c.args.prepared.now in
     lights_or_not (rows_of t.table) (bounded_of t) c.args.self.now.numbers c.args.r c.lit_element.result
-    (λ v. both_ways c.offers_void.result c.if-offers_void.false (c.offers_void.ensures.1 v))
+    (λ v. both_ways c.gives_void.result c.if-gives_void.false (c.gives_void.ensures.1 v))
     (λ o h. c.in_default.ensures o (omega arith) h)
     c.lit_element.ensures

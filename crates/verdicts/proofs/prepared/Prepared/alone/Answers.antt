@@ -4,7 +4,7 @@ use Rattle.sets.specs.Sets.{word}
 use Rattle.forms.specs.Buffers.{rows_of}
 use Rattle.forms.specs.Limits.{max_rows}
 use Rattle.verdicts.specs.Naming.{place_of}
-use Rattle.verdicts.proofs.Leaning.{alone_put, alone_none}
+use Rattle.verdicts.proofs.LeanedFrom.{alone_put, alone_none}
 use Rattle.verdicts.proofs.prepared.Prepared.alone.Goals as goal
 
 abbrev words : ℕ

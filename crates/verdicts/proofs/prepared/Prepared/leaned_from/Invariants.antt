@@ -2,7 +2,7 @@ use Rattle.std.proofs.Common.{◌-◌, ◌*◌}
 use Rattle.sets.specs.Sets.{member, tally}
 use Rattle.forms.specs.Buffers.{rows_of}
 use Rattle.forms.specs.Limits.{max_rows}
-use Rattle.verdicts.proofs.Leaning.{Walking}
+use Rattle.verdicts.proofs.LeanedFrom.{Walking}
 use Rattle.verdicts.proofs.prepared.Prepared.leaned_from.Given as goal
 
 abbrev pub invariant-loop-k : goal.invariant-loop-k
