@@ -1,12 +1,12 @@
 /*
  * Which factories can read every order that our planners write?
  *
- *   rt staticlib compare
- *   cc -Wall -Wextra -Iinclude examples/send_to_factory.c target/staticlib/libcompare.a KIT/lib/librattle_c.a -o send_to_factory
+ *   tools/staticlib
+ *   cc -Wall -Wextra -Iinclude examples/send_to_factory.c target/staticlib/libcompare.a -o send_to_factory
  *   ./send_to_factory examples/tables
  *
- * (KIT is the folder above the one of the guide that `rt doc` prints.) Prints GREEN for a factory that can, GREY with an
- * order that it cannot read for one that cannot, and which table is at fault and why where nothing can be said.
+ * Prints GREEN for a factory that can, GREY with an order that it cannot read for one that cannot, and which table is
+ * at fault and why where nothing can be said.
  */
 #include "formbook.h"
 
