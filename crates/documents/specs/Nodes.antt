@@ -10,7 +10,7 @@ use Rattle.forms.specs.declared.Row.{Row}
 use Rattle.documents.specs.Grammar.{Small}
 use Rattle.forms.specs.Documents.Document.{void, reference, element}
 
--- A node stands for a document. (`nth nodes k` is the node with number k, or none.)
+-- A node stands for a document. (`slice_get nodes k` is the node with number k, or none.)
 pub data StandsFor (nodes : List Node) : ℕ → Document → Type 0 where
   for_void : {k : ℕ} → slice_get nodes k ≡ Some Void → StandsFor nodes k void
   for_reference : {k c : ℕ} → slice_get nodes k ≡ Some (Reference c) → StandsFor nodes k (reference c)
