@@ -1,7 +1,7 @@
 // Compares the library's answer with that of the definitions written down apart from it (oracle.rs), on random, structured
 // and damaged tables, and measures both. Built and run by bench/differ/run.
 //
-//     differ [SEED [CASES]]      default: seed 1, 20,000 cases
+//     differ [SEED [CASES]]      default: 20,000 cases, begun with the number 1
 mod oracle;
 
 use oracle::{Doc, Outcome, compare as asked, read_doc};
