@@ -3,7 +3,7 @@ use Rattle.std.proofs.Common.{◌≡◌, ℕ, ◌+◌, ◌-◌, ◌*◌, ◌/◌
 use Rattle.std.proofs.lemmas.Nat.{mul-le}
 use Rattle.std.proofs.lemmas.Bool.{cases_Bool, cases_lt, cond-true, cond-false}
 use Rattle.sets.specs.Sets.{member, tally, word, bit}
-use Rattle.sets.proofs.Members.{member_at, member_past}
+use Rattle.sets.proofs.Membership.{member_at, member_past}
 use Rattle.forms.specs.Limits.{max_rows}
 use Rattle.forms.specs.Refusals.Outcome.{gives}
 use Rattle.forms.specs.declared.Row.{Row}

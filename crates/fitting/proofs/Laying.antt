@@ -3,7 +3,7 @@ use Rattle.std.proofs.Common.{◌≡◌, ℕ, ◌+◌, ◌*◌, ◌/◌, ◌%◌
 use Rattle.std.proofs.lemmas.List.{get_or-set_same, get_or-set_other}
 use Rattle.std.proofs.lemmas.Bool.{cases_eq, cases_lt, eq-eqb, ne_eqb}
 use Rattle.sets.specs.Sets.{bit, member, word, top}
-use Rattle.sets.proofs.Members.{member_at, member_top}
+use Rattle.sets.proofs.Membership.{member_at, member_top}
 use Rattle.forms.specs.Limits.{max_rows}
 use Rattle.documents.specs.Limits.{max_nodes}
 use Rattle.relation.specs.Cells.{cell}

@@ -2,7 +2,7 @@
 use Rattle.std.proofs.Common.{◌≡◌, ℕ, ◌+◌, ◌*◌, ◌<◌, ◌≤◌, Bool, true, false, cond, eqb, List, length, sym, refl, ap, ◌∙◌, subst, ⊎_elim, arith}
 use Rattle.std.proofs.lemmas.Bool.{cases_eq, cases_lt, eq-eqb, ne_eqb, both_ways}
 use Rattle.sets.specs.Sets.{member, tally, word}
-use Rattle.sets.proofs.Members.{member_within}
+use Rattle.sets.proofs.Membership.{member_within}
 use Rattle.sets.proofs.Tallies.{tally_fewer}
 use Rattle.narrowing.specs.Narrowing.{Within, Lawful, Stands, Narrowed, Round}
 

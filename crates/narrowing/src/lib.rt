@@ -23,6 +23,7 @@ fn round<R: Rule>(rule: &R, set: &mut [u64]) -> bool
     ensures { Round (R.says rule.now) set.old set.new result }
 {
     let mut struck = false;
+    // As it is: the set loses members while it is gone through, so no iterator can hold it.
     let mut from = 0;
     while let Some(place) = sets::next(set, from) {
         if !rule.ask(place, set) {

@@ -6,7 +6,7 @@ use Rattle.std.proofs.lemmas.List.{get_or-set_same, get_or-set_other}
 use Rattle.std.proofs.lemmas.Bool.{cases_lt, cases_eq, both_ways, or_cases, or_parts, or_right}
 use Rattle.sets.specs.Sets.{bit, member, tally, word, top}
 use Rattle.sets.proofs.Words.{bit_of_or}
-use Rattle.sets.proofs.Members.{member_at, member_past}
+use Rattle.sets.proofs.Membership.{member_at, member_past}
 use Rattle.sets.proofs.Tallies.{tally_part}
 use Rattle.sets.proofs.Wider.{wider_within, wider_grows}
 use Rattle.forms.specs.Limits.{max_rows}

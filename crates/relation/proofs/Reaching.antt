@@ -6,7 +6,7 @@ use Rattle.std.proofs.lemmas.Option.{slice_get_past}
 use Rattle.std.proofs.lemmas.Bool.{cases_lt, both_ways, or_cases, or_left, or_right, eqb-true, eq-eqb}
 use Rattle.sets.specs.Sets.{bit, member, tally, word, top}
 use Rattle.sets.proofs.Lowest.{bit_zero}
-use Rattle.sets.proofs.Members.{member_at, member_top, member_past}
+use Rattle.sets.proofs.Membership.{member_at, member_top, member_past}
 use Rattle.sets.proofs.Tallies.{tally_le}
 use Rattle.forms.specs.Limits.{max_rows}
 use Rattle.forms.specs.declared.Row.{Row}

@@ -1,7 +1,8 @@
 pub mod Words
 pub mod Tallies
 pub mod Lowest
-pub mod Members
+pub mod Membership
 pub mod Nexts
 pub mod Counts
 pub mod Wider
+pub mod Going

@@ -7,7 +7,7 @@ use Rattle.std.proofs.lemmas.Bool.{cases_eq, both_ways, or_left}
 use Rattle.sets.specs.Sets.{bit, member, word, top, tally}
 use Rattle.sets.proofs.Words.{bit_of_or, bit_of_xor, differ}
 use Rattle.sets.proofs.Lowest.{at_trailing}
-use Rattle.sets.proofs.Members.{member_at, member_within}
+use Rattle.sets.proofs.Membership.{member_at, member_within}
 use Rattle.sets.proofs.Tallies.{tally_fewer}
 
 below_power : (n : ℕ) → n < 2 ^ n

@@ -31,3 +31,9 @@ abbrev pub Next : (ℕ → Bool) → ℕ → Option ℕ → Type 0
 Next f start r =
     MatchOption r ((j : ℕ) → start ≤ j → f j ≡ false)
     (λ k. (start ≤ k) × (f k ≡ true) × ((j : ℕ) → start ≤ j → j < k → f j ≡ false))
+
+-- what goes through a set of numbers gave the lowest member not before its start, and starts behind it then; of a state, `has` says which numbers are members, and `start` where it is
+pub record GoesOn {S : Type 0} (has : S → ℕ → Bool) (start : S → ℕ) (s : S) (r : Option ℕ) (t : S) : Type 0 where
+  pub next : Next (has s) (start s) r
+  pub same : (j : ℕ) → has t j ≡ has s j
+  pub behind : MatchOption r (start t ≡ start s) (λ k. start t ≡ k + 1)

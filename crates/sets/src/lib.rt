@@ -1,8 +1,9 @@
 // Sets of numbers, kept as bits of 64-bit words.
 #![tactic(auto)]
 
-ghost use Rattle.std.specs.Prelude.{◌≡◌, ℕ, ◌*◌, ◌^◌, ◌<◌, ◌≤◌, min, false, not, ◌&&◌, ◌||◌, ◌⊎◌, length, if◌then◌else◌, ◌==◌, count_ones, nat_eq, nat_lt};
-ghost use Rattle.sets.specs.Sets.{word, top, member, tally, Next};
+ghost use Rattle.std.specs.Prelude.{◌≡◌, ℕ, ◌-◌, ◌*◌, ◌^◌, ◌<◌, ◌≤◌, min, false, not, ◌&&◌, ◌||◌, ◌⊎◌, length, if◌then◌else◌, ◌==◌, count_ones, nat_eq, nat_lt, MatchOption, slice_index, ◌≢◌};
+ghost use Rattle.std.specs.Iterator.{at_most};
+ghost use Rattle.sets.specs.Sets.{word, top, member, tally, Next, GoesOn};
 
 // How many members a word has room for.
 pub const WORD: usize = 64;
@@ -12,13 +13,6 @@ const TOP: usize = 1 << 63;
 
 // So many words have room for all members.
 const MOST: usize = TOP / WORD;
-
-// The lower of two numbers.
-fn lower(a: usize, b: usize) -> usize
-    ensures { result ≡ min a b }
-{
-    if a < b { a } else { b }
-}
 
 // How many bits of a word are set, of those that it has.
 fn bits(n: u64) -> usize
@@ -58,6 +52,13 @@ pub fn remove(words: &mut [u64], k: usize)
     }
 }
 
+// The first word that has a member.
+fn filled(words: &[u64]) -> Option<usize>
+    ensures { MatchOption result ((k : ℕ) → k < length words.now → slice_index words.now k ≡ 0) (λ i. (i < length words.now) × (slice_index words.now i ≢ 0) × ((k : ℕ) → k < i → slice_index words.now k ≡ 0)) }
+{
+    words.iter().position(|word| *word != 0)
+}
+
 // The lowest member not before the start, if there is one. A word without members costs one step.
 pub fn next(words: &[u64], start: usize) -> Option<usize>
     ensures { Next (member words.now) start result }
@@ -70,13 +71,9 @@ pub fn next(words: &[u64], start: usize) -> Option<usize>
     if rest != 0 {
         return Some(start + rest.trailing_zeros() as usize);
     }
-    let end = lower(words.len(), MOST);
-    for i in first + 1..end {
-        if words[i] != 0 {
-            return Some(i * WORD + words[i].trailing_zeros() as usize);
-        }
-    }
-    None
+    let end = words.len().min(MOST);
+    let i = first + 1 + filled(&words[first + 1..end])?;
+    Some(i * WORD + words[i].trailing_zeros() as usize)
 }
 
 // How many members the set has.
@@ -84,9 +81,8 @@ pub fn count(words: &[u64]) -> usize
     ensures { result ≡ tally (member words.now) (word * length words.now) }
 {
     let mut total = 0;
-    let end = lower(words.len(), MOST);
-    for i in 0..end {
-        total += bits(words[i]);
+    for word in &words[..words.len().min(MOST)] {
+        total += bits(*word);
     }
     total
 }
@@ -97,11 +93,42 @@ pub fn join(words: &mut [u64], others: &[u64]) -> usize
     ensures new { result ≡ tally (λ j. member others.now j && not (member words.old j)) (word * length words.old) }
 {
     let mut total = 0;
-    let end = lower(lower(words.len(), MOST), others.len());
-    for i in 0..end {
-        let all = words[i] | others[i];
+    let end = words.len().min(others.len()).min(MOST);
+    for (i, other) in others[..end].iter().enumerate() {
+        let all = words[i] | *other;
         total += bits(all ^ words[i]);
         words[i] = all;
     }
     total
+}
+
+// Goes through the members of a set, from the lowest to the highest.
+#[derive(Clone, Copy)]
+pub struct Members<'a> {
+    words: &'a [u64],
+    start: usize,
+}
+
+impl<'a> Members<'a> {
+    // All members of a set.
+    pub fn of(words: &'a [u64]) -> Members<'a>
+        ensures set { result.words.now ≡ words.now }
+        ensures start { result.start ≡ 0 }
+    {
+        Members { words, start: 0 }
+    }
+}
+
+impl<'a> Iterator for Members<'a> {
+    type Item = usize;
+
+    ghost next_gives = { GoesOn (λ s. member s.words.now) (λ s. s.start) };
+
+    ghost remaining = { λ s. at_most (word * length s.words.now - s.start) };
+
+    fn next(&mut self) -> Option<usize> {
+        let k = next(self.words, self.start)?;
+        self.start = k + 1;
+        Some(k)
+    }
 }

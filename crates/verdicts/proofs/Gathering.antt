@@ -4,7 +4,7 @@ use lib.Bits.{bit_and}
 use lib.ListN.{length-replicate}
 use Rattle.std.proofs.lemmas.Bool.{cases_eq, cases_lt, eq-eqb, ne_eqb, lt-ltb, le-ltb, and_from, and_left, and_right}
 use Rattle.sets.specs.Sets.{bit, member, word, top}
-use Rattle.sets.proofs.Members.{member_at, member_past}
+use Rattle.sets.proofs.Membership.{member_at, member_past}
 use Rattle.sets.proofs.Words.{bit_of_and}
 use Rattle.forms.specs.Limits.{max_rows}
 use Rattle.relation.proofs.Reaching.{zeros_none}

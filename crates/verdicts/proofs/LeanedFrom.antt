@@ -4,7 +4,7 @@ use lib.ListN.{length-replicate}
 use Rattle.std.proofs.lemmas.Nat.{mul-add-lt, div_below, mod_below, div-add-mod'}
 use Rattle.std.proofs.lemmas.Bool.{both_ways, cases_Bool, cases_eq, cases_lt, or_cases, or_left, or_right, or_from, eqb-true, eq-eqb, ne_eqb, cond-true, cond-false}
 use Rattle.sets.specs.Sets.{member, tally, word, top}
-use Rattle.sets.proofs.Members.{member_within}
+use Rattle.sets.proofs.Membership.{member_within}
 use Rattle.sets.proofs.Tallies.{tally_fewer, tally_le}
 use Rattle.forms.specs.Limits.{max_rows}
 use Rattle.forms.specs.declared.Row.{Row}

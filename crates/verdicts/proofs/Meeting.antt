@@ -2,7 +2,7 @@
 use Rattle.std.proofs.Common.{◌≡◌, ℕ, ◌+◌, ◌*◌, ◌/◌, ◌%◌, ◌^◌, ◌<◌, ◌≤◌, Bool, true, List, get_or, Decides, sym, refl, ap, ◌∙◌, arith, below_more}
 use Rattle.std.proofs.lemmas.Bool.{and_from, lt-ltb}
 use Rattle.sets.specs.Sets.{bit, member, word}
-use Rattle.sets.proofs.Members.{member_at}
+use Rattle.sets.proofs.Membership.{member_at}
 use Rattle.sets.proofs.Nexts.{bit_below}
 use Rattle.forms.specs.Buffers.{rows_of}
 use Rattle.forms.specs.Limits.{max_rows, numbers}

@@ -1,5 +1,5 @@
 use Rattle.std.proofs.Common.{ℕ, ◌+◌, Bool, List, sym, ◌∙◌, subst, arith}
-use Rattle.sets.proofs.Members.{member_within}
+use Rattle.sets.proofs.Membership.{member_within}
 use Rattle.narrowing.proofs.Rounds.{Going, going_past, going_drop}
 use Rattle.narrowing.proofs.round.Goals as goal
 use Rattle.narrowing.proofs.round.Goals.{then-not-ask, else-not-ask}

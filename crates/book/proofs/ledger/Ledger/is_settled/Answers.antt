@@ -1,6 +1,6 @@
 use Rattle.std.proofs.Common.{◌≡◌, true, sym, ◌∙◌, arith}
 use Rattle.sets.specs.Sets.{member}
-use Rattle.sets.proofs.Members.{member_within}
+use Rattle.sets.proofs.Membership.{member_within}
 use Rattle.verdicts.proofs.Walks.{passed_none, passed_more, passed_all}
 use Rattle.book.proofs.ledger.Ledger.is_settled.Goals as goal
 
