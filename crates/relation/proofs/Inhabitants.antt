@@ -111,12 +111,16 @@ rest_none n set rest is j = is j ∙ (let h = le-ltb j 0 (omega arith) in rw h (
     and_true true = refl
     and_true false = refl
 
-pub rest_past : (n : ℕ) (set rest : List ℕ) (i : ℕ) → Rest n set rest i → member set i ≡ false → Rest n set rest (i + 1)
-rest_past n set rest i r e j = r j ∙ ap (λ b. ltb j n && not b) (go (member set j) (λ same. ap (member set) same ∙ e))
+-- no row between is in the set
+pub rest_skip : (n : ℕ) (set rest : List ℕ) (i k : ℕ) → i ≤ k → ((j : ℕ) → i ≤ j → j < k → member set j ≡ false) → Rest n set rest i → Rest n set rest k
+rest_skip n set rest i k up none r j = r j ∙ ap (λ b. ltb j n && not b) (go (member set j) (none j))
   where
-    go : (b : Bool) → (j ≡ i → b ≡ false) → (ltb j i && b) ≡ (ltb j (i + 1) && b)
-    go true off = ap (λ x. x && true) (⊎_elim (λ same. absurd (both_ways true (off same) refl)) (λ ne. grind (arith, nat_tests)) (cases_eq j i))
-    go false off = and_false (ltb j i) ∙ sym (and_false (ltb j (i + 1)))
+    go : (b : Bool) → (i ≤ j → j < k → b ≡ false) → (ltb j i && b) ≡ (ltb j k && b)
+    go true off = ap (λ x. x && true) (⊎_elim
+        (λ low. lt-ltb j i low ∙ sym (lt-ltb j k (omega arith)))
+        (λ high. ⊎_elim (λ less. absurd (both_ways true (off high less) refl)) (λ more. le-ltb j i high ∙ sym (le-ltb j k more)) (cases_lt j k))
+        (cases_lt j i))
+    go false off = and_false (ltb j i) ∙ sym (and_false (ltb j k))
       where
         and_false : (b : Bool) → (b && false) ≡ false
         and_false true = refl

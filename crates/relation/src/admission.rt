@@ -36,12 +36,10 @@ fn outside(rows: &[Row]) -> Option<u8>
     requires { length rows.now ≤ max_rows }
     ensures { MatchOption result (Nowhere (Outside rows.now)) (Lowest (Outside rows.now)) }
 {
-    for p in 0..rows.len() {
-        if !numbers_below(rows[p], rows.len()) {
-            return Some(p as u8);
-        }
-    }
-    None
+    let p = rows
+        .iter()
+        .position(|row| !numbers_below(*row, rows.len()))?;
+    Some(p as u8)
 }
 
 // Whether two label sets have a label in common.
@@ -61,6 +59,7 @@ fn element_labels(row: Row) -> u64
     }
 }
 
+// As it is, rows and their analysis apart: a struct of both would hold what the analysis tells only as a truncated fact, to be decided again at each use.
 // Whether row p offers row o, and o is inhabited.
 fn counts(analysis: &Analysis, p: usize, o: usize) -> bool
     requires first { p < max_rows }
@@ -109,12 +108,8 @@ fn sharing(rows: &[Row], analysis: &Analysis) -> Option<u8>
     requires analyzed { Analyzed rows.now analysis.now }
     ensures { MatchOption result (Nowhere (SharesLabel rows.now)) (Lowest (SharesLabel rows.now)) }
 {
-    for p in 0..rows.len() {
-        if shares(rows, analysis, p) {
-            return Some(p as u8);
-        }
-    }
-    None
+    let p = (0..rows.len()).find(|p| shares(rows, analysis, *p))?;
+    Some(p as u8)
 }
 
 // The same as `admit`, of the rows of a slice.

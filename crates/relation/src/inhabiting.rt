@@ -10,6 +10,7 @@ use forms::Row;
 use narrowing;
 use narrowing::Rule;
 use sets;
+use sets::Members;
 
 // Whether a number is that of no row, or of one taken to be barren.
 fn lacking(count: usize, set: &[u64], number: u8) -> bool
@@ -47,10 +48,10 @@ impl<'a> Rule for Barren<'a> {
     ghost lawful = { λ s. barren_lawful s.rows.now };
 
     fn ask(&self, place: usize, set: &[u64]) -> bool {
-        if place >= self.rows.len() {
-            return true;
+        match self.rows.get(place) {
+            Some(row) => is_barren(self.rows.len(), set, *row),
+            None => true,
         }
-        is_barren(self.rows.len(), set, self.rows[place])
     }
 }
 
@@ -72,10 +73,8 @@ fn others(count: usize, set: &[u64]) -> [u64; ROW_WORDS]
     ensures { (j : ℕ) → member result j ≡ (nat_lt j count && not (member set.now j)) }
 {
     let mut rest = first_rows(count);
-    for p in 0..count {
-        if sets::test(set, p) {
-            sets::remove(&mut rest, p);
-        }
+    for p in Members::of(set) {
+        sets::remove(&mut rest, p);
     }
     rest
 }

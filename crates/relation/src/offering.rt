@@ -18,10 +18,7 @@ pub const CELL_WORDS: usize = MAX_ROWS * ROW_WORDS;
 fn is_leaf(row: Row) -> bool
     ensures { Decides result (NoUnion row) }
 {
-    match row {
-        Row::Union(_, _) => false,
-        _ => true,
-    }
+    !matches!(row, Row::Union(_, _))
 }
 
 // Each row that is no union offers itself.
@@ -31,8 +28,8 @@ fn themselves(rows: &[Row]) -> [u64; CELL_WORDS]
     ensures leaves { HoldsLeaves rows.now result }
 {
     let mut cells = [0; CELL_WORDS];
-    for p in 0..rows.len() {
-        if is_leaf(rows[p]) {
+    for (p, row) in rows.iter().enumerate() {
+        if is_leaf(*row) {
             sets::put(&mut cells, p * MAX_ROWS + p);
         }
     }
@@ -55,6 +52,7 @@ fn add_row(cells: &mut [u64], p: usize, k: usize) -> bool
 {
     let mut grown = false;
     if k < MAX_ROWS {
+        // As it is: both rows lie in one array, so neither can be a slice of its own while the other is written.
         for i in 0..ROW_WORDS {
             let own = cells[p * ROW_WORDS + i];
             let other = cells[k * ROW_WORDS + i];
@@ -84,8 +82,8 @@ fn spread(rows: &[Row], cells: &mut [u64]) -> bool
     ensures { Spread rows.now cells.old cells.new result }
 {
     let mut grown = false;
-    for p in 0..rows.len() {
-        let (left, right) = sides(rows[p], p);
+    for (p, row) in rows.iter().enumerate() {
+        let (left, right) = sides(*row, p);
         let first = add_row(cells, p, left);
         let second = add_row(cells, p, right);
         grown = grown | first | second;

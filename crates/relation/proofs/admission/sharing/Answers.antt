@@ -1,11 +1,26 @@
-use Rattle.std.proofs.Common.{arith}
-use Rattle.std.proofs.lemmas.Bool.Decides.{not_from_Decides}
+use Rattle.std.proofs.Common.{rules, None, Some, length, sym, subst, arith}
+use Rattle.std.specs.Option.{MatchOption}
+use Rattle.std.proofs.lemmas.Iterator.{first_from_Range}
+use Rattle.forms.specs.Places.{Nowhere, Lowest}
 use Rattle.relation.specs.Admission.{SharesLabel}
-use Rattle.relation.proofs.Judging.{none_more, sharing_below}
+use Rattle.relation.proofs.Judging.{sharing_below}
 use Rattle.relation.proofs.admission.sharing.Goals as goal
+use borrow.Author.Tests.{tests}
 
-pub loop-p-preserved : goal.loop-p-preserved
-loop-p-preserved c = none_more (SharesLabel c.args.rows.now) c.loop-p.p c.loop-p.invariant (not_from_Decides c.shares.result c.shares.ensures c.if-shares.false)
+pub returns-in_err-p : goal.returns-in_err-p
+returns-in_err-p c =
+    let rows = c.args.rows.now in
+    let none = first_from_Range (record { start = 0; end = length rows }) _ _ None (SharesLabel rows) (λ p. SharesLabel rows p → ⊥) c.in_err-p.ensures.ran (λ x q k. search (rules, tests)) (λ x q k. search (rules, tests)) in
+    subst (λ r. MatchOption r (Nowhere (SharesLabel rows)) (Lowest (SharesLabel rows))) (sym c.from_residual.ensures) (λ p h. none p (omega arith) (sharing_below rows p h) h)
+
+pub overflow_cast-result : goal.overflow_cast-result
+overflow_cast-result c =
+    let rows = c.args.rows.now in
+    let (_, low, _, _) = first_from_Range (record { start = 0; end = length rows }) _ _ (Some c.in_ok-p.p) (SharesLabel rows) (λ p. SharesLabel rows p → ⊥) c.in_ok-p.ensures.ran (λ x q k. search (rules, tests)) (λ x q k. search (rules, tests)) in
+    omega arith
 
 pub returns : goal.returns
-returns c = λ p h. c.loop-p.invariant p (let lt = sharing_below c.args.rows.now p h in omega arith) h
+returns c =
+    let rows = c.args.rows.now in
+    let (_, _, shares, before) = first_from_Range (record { start = 0; end = length rows }) _ _ (Some c.in_ok-p.p) (SharesLabel rows) (λ p. SharesLabel rows p → ⊥) c.in_ok-p.ensures.ran (λ x q k. search (rules, tests)) (λ x q k. search (rules, tests)) in
+    (shares, λ j less. before j (omega arith) less)
