@@ -1,7 +1,7 @@
 // Why a document is not read or not written.
-ghost use Rattle.std.specs.Prelude.{◌≡◌};
-ghost use Rattle.forms.specs.Refusals.{number};
 ghost use Rattle.documents.specs.Faults.{read_refusal, write_refusal};
+
+use forms::refusals::Refused;
 
 // Why a text is not read. A place is the number of a byte, from 0, or the text's length where it ends too early.
 #[derive(Clone, Copy, PartialEq, Eq, Debug)]
@@ -29,10 +29,10 @@ pub enum WriteFault {
     TooLong,
 }
 
-impl ReadFault {
-    pub fn number(&self) -> u8
-        ensures { result ≡ number (read_refusal self.now) }
-    {
+impl Refused for ReadFault {
+    ghost refusal = { read_refusal };
+
+    fn number(&self) -> u8 {
         match self {
             ReadFault::TooLong => 40,
             ReadFault::Wrong { .. } => 41,
@@ -42,10 +42,10 @@ impl ReadFault {
     }
 }
 
-impl WriteFault {
-    pub fn number(&self) -> u8
-        ensures { result ≡ number (write_refusal self.now) }
-    {
+impl Refused for WriteFault {
+    ghost refusal = { write_refusal };
+
+    fn number(&self) -> u8 {
         match self {
             WriteFault::ManyNodes => 30,
             WriteFault::Unsound { .. } => 31,

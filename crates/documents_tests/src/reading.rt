@@ -2,6 +2,7 @@
 use documents::faults::ReadFault;
 use documents::nodes::{MAX_NODES, Node};
 use documents::reader::read_document;
+use forms::refusals::Refused;
 use std::alloc::{AllocError, Global};
 use std::test::Fail;
 

@@ -3,6 +3,7 @@ use documents::faults::{ReadFault, WriteFault};
 use documents::nodes::{MAX_DOCUMENT, MAX_NODES, Node};
 use documents::reader::read_document;
 use documents::writer::write_document;
+use forms::refusals::Refused;
 use std::test::Fail;
 
 const fn element(label: u8, inside: u16, following: u16) -> Node {

@@ -14,6 +14,7 @@ pub fn put(out: &mut [u8], place: usize, byte: u8) -> usize
 }
 
 // How many digits a number has.
+#[tactic(auto, using(crate::proofs::Decimals::one_digit, crate::proofs::Decimals::two_digits, crate::proofs::Decimals::three_digits))]
 pub fn digits(number: u8) -> usize
     ensures value { result ≡ length (decimal number) }
     ensures few { (1 ≤ result) × (result ≤ 3) }
@@ -27,6 +28,7 @@ pub fn digits(number: u8) -> usize
     }
 }
 
+#[tactic(auto, using(std::proofs::lemmas::Fmt::decimal_digit))]
 fn put_digits(out: &mut [u8], place: usize, number: u8) -> usize
     ensures { Wrote out.old out.new place (decimal number) result }
 {

@@ -9,6 +9,7 @@ ghost use Rattle.forms.specs.Rows.{Lawful};
 pub mod buffer;
 pub mod bytes;
 pub mod makes;
+pub mod refusals;
 
 // The most rows that a table has.
 pub const MAX_ROWS: usize = 64;

@@ -1,11 +1,10 @@
 // Row text: rows read from bytes, and written to bytes.
 #![tactic(auto)]
 
-ghost use Rattle.std.specs.Prelude.{◌≡◌};
-ghost use Rattle.forms.specs.Refusals.{number};
 ghost use Rattle.texts.specs.Faults.{text_refusal, rows_refusal};
 
 use forms::buffer::RowBuffer;
+use forms::refusals::Refused;
 
 mod bytes;
 mod fields;
@@ -35,11 +34,10 @@ pub enum TextFault {
     TooManyLines,
 }
 
-impl TextFault {
-    // The fault's number.
-    pub fn number(&self) -> u8
-        ensures { result ≡ number (text_refusal self.now) }
-    {
+impl Refused for TextFault {
+    ghost refusal = { text_refusal };
+
+    fn number(&self) -> u8 {
         match self {
             TextFault::TooLong => 1,
             TextFault::WrongLine { .. } => 2,
@@ -57,11 +55,10 @@ pub enum RowsFault {
     NoRoom,
 }
 
-impl RowsFault {
-    // The fault's number.
-    pub fn number(&self) -> u8
-        ensures { result ≡ number (rows_refusal self.now) }
-    {
+impl Refused for RowsFault {
+    ghost refusal = { rows_refusal };
+
+    fn number(&self) -> u8 {
         match self {
             RowsFault::NumberOver { .. } => 4,
             RowsFault::NoRoom => 5,

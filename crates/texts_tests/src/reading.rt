@@ -1,5 +1,6 @@
 // Reading: right texts, and each fault at its place.
 use forms::buffer::RowBuffer;
+use forms::refusals::Refused;
 use forms::{Capability, FormSource, Row};
 use std::process::Abort;
 use std::test::Fail;

@@ -1,5 +1,6 @@
 // Writing: the text of rows, each refusal, and the round trips.
 use forms::buffer::RowBuffer;
+use forms::refusals::Refused;
 use forms::{Capability, Row};
 use std::process::Abort;
 use std::test::Fail;
