@@ -1,7 +1,7 @@
 // Why the nodes of a document are not fitted.
-ghost use Rattle.std.specs.Prelude.{◌≡◌};
-ghost use Rattle.forms.specs.Refusals.{number};
 ghost use Rattle.fitting.specs.Faults.{fit_refusal};
+
+use forms::refusals::Refused;
 
 #[derive(Clone, Copy, PartialEq, Eq, Debug)]
 pub enum FitFault {
@@ -15,10 +15,10 @@ pub enum FitFault {
     MarksLength,
 }
 
-impl FitFault {
-    pub fn number(&self) -> u8
-        ensures { result ≡ number (fit_refusal self.now) }
-    {
+impl Refused for FitFault {
+    ghost refusal = { fit_refusal };
+
+    fn number(&self) -> u8 {
         match self {
             FitFault::ManyNodes => 30,
             FitFault::Unsound { .. } => 31,

@@ -50,7 +50,7 @@ pub fn meets(a: u64, b: u64) -> bool
 }
 
 // The label set of an element row; of another row the empty one.
-fn element_labels(row: Row) -> u64
+pub fn element_labels(row: Row) -> u64
     ensures { result ≡ label_set_of row }
 {
     match row {

@@ -1,9 +1,9 @@
 // What the rows of a table offer, which of them some document fits, and whether the table is admitted.
 #![tactic(auto)]
 
-ghost use Rattle.std.specs.Prelude.{◌≡◌};
-ghost use Rattle.forms.specs.Refusals.{number as refusal-number};
 ghost use Rattle.relation.specs.Faults.{admission_refusal};
+
+use forms::refusals::Refused;
 
 pub mod admission;
 pub mod analysis;
@@ -21,11 +21,10 @@ pub enum AdmissionFault {
     LabelTwice { row: u8 },
 }
 
-impl AdmissionFault {
-    // The number by which the fault is known.
-    pub fn number(&self) -> u8
-        ensures { result ≡ refusal-number (admission_refusal self.now) }
-    {
+impl Refused for AdmissionFault {
+    ghost refusal = { admission_refusal };
+
+    fn number(&self) -> u8 {
         match self {
             AdmissionFault::NoRows => 11,
             AdmissionFault::NumberOutside { .. } => 12,

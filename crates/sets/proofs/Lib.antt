@@ -6,3 +6,4 @@ pub mod Nexts
 pub mod Counts
 pub mod Wider
 pub mod Going
+pub mod Common

@@ -1,7 +1,7 @@
 // Sets of numbers, kept as bits of 64-bit words.
 #![tactic(auto)]
 
-ghost use Rattle.std.specs.Prelude.{◌≡◌, ℕ, ◌-◌, ◌*◌, ◌^◌, ◌<◌, ◌≤◌, min, false, not, ◌&&◌, ◌||◌, ◌⊎◌, length, if◌then◌else◌, ◌==◌, count_ones, nat_eq, nat_lt, MatchOption, slice_index, ◌≢◌};
+ghost use Rattle.std.specs.Prelude.{◌≡◌, ℕ, ◌-◌, ◌*◌, ◌^◌, ◌<◌, ◌≤◌, min, true, false, not, ◌&&◌, ◌||◌, ◌⊎◌, length, if◌then◌else◌, ◌==◌, count_ones, nat_eq, nat_lt, MatchOption, Decides, bit_and, slice_index, ◌≢◌};
 ghost use Rattle.std.specs.Iterator.{at_most};
 ghost use Rattle.sets.specs.Sets.{word, top, member, tally, Next, GoesOn};
 
@@ -85,6 +85,23 @@ pub fn count(words: &[u64]) -> usize
         total += bits(*word);
     }
     total
+}
+
+// Whether some word has a bit that the word at its place in the other list has too.
+fn overlaps(words: &[u64], others: &[u64]) -> bool
+    ensures { Decides result ((i : ℕ) × (i < length words.now) × (i < length others.now) × (bit_and (slice_index words.now i) (slice_index others.now i) ≢ 0)) }
+{
+    words
+        .iter()
+        .zip(others)
+        .any(|(word, other)| *word & *other != 0)
+}
+
+// Whether two sets have a member in common.
+pub fn meet(words: &[u64], others: &[u64]) -> bool
+    ensures { Decides result ((k : ℕ) × (member words.now k ≡ true) × (member others.now k ≡ true)) }
+{
+    overlaps(&words[..words.len().min(MOST)], others)
 }
 
 // Adds the members of another set, as far as there is room for them, and answers how many are new.

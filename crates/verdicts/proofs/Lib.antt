@@ -8,7 +8,5 @@ pub mod Deciding
 pub mod Verdicts
 pub mod Pending
 pub mod Naming
-pub mod Leaning
 pub mod LeanedFrom
 pub mod Reading
-pub mod Meeting

@@ -1,7 +1,6 @@
 -- What is read off the sets of a prepared table. Assumes nothing.
-use Rattle.std.proofs.Common.{◌≡◌, ℕ, ◌+◌, ◌<◌, Bool, true, List, Some, None, Decides, Option, ap, ◌∙◌, subst, ⊎_elim, arith}
-use Rattle.std.proofs.lemmas.Bool.{both_ways, cases_lt}
-use Rattle.sets.specs.Sets.{Next}
+use Rattle.std.proofs.Common.{◌≡◌, ℕ, ◌+◌, ◌<◌, Bool, true, List, Some, None, Decides, sym, ap, ◌∙◌, subst, ⊎_elim, arith}
+use Rattle.std.proofs.lemmas.Bool.{cases_lt}
 use Rattle.forms.specs.Buffers.{rows_of}
 use Rattle.forms.specs.Schema.{Offers, Inhabited, IsChannel}
 use Rattle.forms.specs.Schema.Inhabited.{of_channel}
@@ -11,16 +10,13 @@ use Rattle.verdicts.specs.Facts.{ready_of}
 use Rattle.verdicts.specs.Reading.{NextWith, ChannelTaken}
 use Rattle.verdicts.specs.Ready.{in_row, IsElement}
 use Rattle.verdicts.specs.Tests.{takes, RowTaken}
+use Rattle.verdicts.specs.RowSets.{row_set}
 use Rattle.verdicts.specs.declared.prepared.Prepared.{Prepared}
+use Rattle.verdicts.specs.declared.rowsets.RowSet.{RowSet}
 use Rattle.verdicts.proofs.Keeping.{void_in, void_out, channel_in, capable_tells, takes_tells}
 
 decides_same : {P Q : Type 0} (b : Bool) → (P → Q) → (Q → P) → Decides b P → Decides b Q
 decides_same b there back d = (λ e. there (d.0 e), λ q. d.1 (back q))
-
--- the next member is the next number of which holds what members are
-next_with : (f : ℕ → Bool) (P : ℕ → Type 0) → ((j : ℕ) → Decides (f j) (P j)) → (from : ℕ) (r : Option ℕ) → Next f from r → NextWith P from r
-next_with f P means from None none = λ j le h. both_ways (f j) (none j le) ((means j).1 h)
-next_with f P means from (Some k) (le, on, skip) = (le, (means k).0 on, λ j a b h. both_ways (f j) (skip j a b) ((means j).1 h))
 
 -- going through the numbers of which W holds: P holds of each one before the place
 module _ (W P : ℕ → Type 0) where
@@ -45,14 +41,14 @@ module _ (t : Prepared) where
   pub void_tells : (p : ℕ) (b : Bool) → Decides b ((o : ℕ) × (in_row t.voids p o ≡ true)) → Decides b (OffersVoid rows p)
   void_tells p b = decides_same b (void_out t p) (void_in t p)
 
-  pub channel_next : (p from : ℕ) (r : Option ℕ) → Next (in_row t.channels p) from r → NextWith (λ c. Offers rows p c × IsChannel rows c) from r
-  channel_next p = next_with (in_row t.channels p) (λ c. Offers rows p c × IsChannel rows c) (λ c. decides_same (in_row t.channels p c)
+  pub channel_set : (p : ℕ) (s : RowSet) → ((o : ℕ) → row_set s o ≡ in_row t.channels p o) → (c : ℕ) → Decides (row_set s c) (Offers rows p c × IsChannel rows c)
+  channel_set p s is c = subst (λ b. Decides b (Offers rows p c × IsChannel rows c)) (sym (is c)) (decides_same (in_row t.channels p c)
       (λ (offers, _, is). (offers, is))
       (λ (offers, is). (offers, of_channel is.2, is))
       ((ready_of t).addresses p c))
 
-  pub element_next : (p from : ℕ) (r : Option ℕ) → Next (in_row t.elements p) from r → NextWith (λ e. Offers rows p e × Inhabited rows e × IsElement rows e) from r
-  element_next p = next_with (in_row t.elements p) (λ e. Offers rows p e × Inhabited rows e × IsElement rows e) ((ready_of t).parts p)
+  pub element_set : (p : ℕ) (s : RowSet) → ((o : ℕ) → row_set s o ≡ in_row t.elements p o) → (e : ℕ) → Decides (row_set s e) (Offers rows p e × Inhabited rows e × IsElement rows e)
+  element_set p s is e = subst (λ b. Decides b (Offers rows p e × Inhabited rows e × IsElement rows e)) (sym (is e)) ((ready_of t).parts p e)
 
   pub channel_tells : (R : Relation) (c q : ℕ) (b : Bool) → Decides b (RowTaken rows R (in_row t.channels q) c) → Decides b (ChannelTaken rows R c q)
   channel_tells R c q b = decides_same b

@@ -1,5 +1,5 @@
 -- What the tests of the rules tell. Assumes nothing.
-use Rattle.std.proofs.Common.{◌≡◌, ℕ, Bool, true, eqb, Decides, sym, ap, ◌∙◌, subst₂, ⊎_elim}
+use Rattle.std.proofs.Common.{◌≡◌, ℕ, true, eqb, Decides, sym, ap, ◌∙◌, ⊎_elim}
 use lib.Bits.{bit_or}
 use Rattle.std.proofs.lemmas.Bool.{both_ways, cases_Bool, eqb-true, eqb-false, or_right}
 use Rattle.sets.specs.Sets.{bit}
@@ -12,6 +12,3 @@ covers_decides all some = (
   λ e x b. ap (λ w. bit w x) (sym (eqb-true (bit_or all some) all e)) ∙ bit_of_or all some x ∙ or_right (bit all x) (bit some x) b,
   λ within. ⊎_elim (λ e. e) (λ ne. let (x, off, on) = gained all some (λ same. eqb-false (bit_or all some) all ne (sym same)) in absurd (both_ways (bit all x) off (within x on))) (cases_Bool (eqb (bit_or all some) all)),
 )
-
-pub covers_same : (b : Bool) {all all' some some' : ℕ} → all ≡ all' → some ≡ some' → Decides b ((x : ℕ) → belongs x some ≡ true → belongs x all ≡ true) → Decides b ((x : ℕ) → belongs x some' ≡ true → belongs x all' ≡ true)
-covers_same b e f h = subst₂ (λ v w. Decides b ((x : ℕ) → belongs x w ≡ true → belongs x v ≡ true)) e f h

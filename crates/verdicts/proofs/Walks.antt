@@ -1,11 +1,14 @@
 -- The set of one row, as part of the sets of all rows, and going through its members. Assumes nothing.
-use Rattle.std.proofs.Common.{◌≡◌, ℕ, ◌+◌, ◌-◌, ◌*◌, ◌/◌, ◌%◌, ◌<◌, ◌≤◌, Bool, true, false, ◌&&◌, ltb, ◌⊎◌, List, length, take, drop, sym, ap, ◌∙◌, subst, inl, inr, ⊎_elim, mul_left_comm, arith, length-drop, length-take, get_or-drop, get_or-take}
+use Rattle.std.proofs.Common.{◌≡◌, ℕ, ◌+◌, ◌-◌, ◌*◌, ◌/◌, ◌%◌, ◌<◌, ◌≤◌, Bool, true, false, ◌&&◌, ltb, ◌⊎◌, List, length, take, drop, sym, ap, ◌∙◌, subst, inl, inr, ⊎_elim, mul_left_comm, arith, length-drop, length-take, get_or-drop, get_or-take, Option, Some, None, Bor, refl}
+use Rattle.std.specs.Slice.{IsGetRangeResult}
 use Rattle.std.proofs.lemmas.Bool.{cases_lt, lt-ltb, le-ltb, and_left, and_parts, ltb-true, both_ways}
-use Rattle.sets.specs.Sets.{bit, member, word}
+use Rattle.sets.specs.Sets.{bit, member, word, GoesOn}
 use Rattle.sets.proofs.Membership.{member_at, member_past}
 use Rattle.forms.specs.Limits.{max_rows, numbers}
 use Rattle.relation.specs.Cells.{cell}
 use Rattle.verdicts.specs.Ready.{in_row}
+use Rattle.verdicts.specs.RowSets.{row_set, WordsOf}
+use Rattle.verdicts.specs.declared.rowsets.RowSet.{RowSet}
 
 module _ (cells : List ℕ) (p : ℕ) where
   pub in_row_low : (o : ℕ) → o < max_rows → in_row cells p o ≡ cell cells p o
@@ -41,15 +44,13 @@ module _ (cells : List ℕ) (p : ℕ) where
         (λ past. member_past part o (omega (arith, length-take (b - a) (drop a cells), length-drop a cells)) ∙ sym (in_row_past o past))
         (cases_lt o max_rows)
 
-    pub part_small : (k : ℕ) → member part k ≡ true → k < max_rows
-    part_small k e = (in_row_below k (sym (row_part k) ∙ e)).0
-
-    -- so the next member of the part is the next member of the set
-    pub next_found : (from k : ℕ) → (from ≤ k) × (member part k ≡ true) × ((j : ℕ) → from ≤ j → j < k → member part j ≡ false) → (from ≤ k) × (in_row cells p k ≡ true) × ((j : ℕ) → from ≤ j → j < k → in_row cells p j ≡ false)
-    next_found from k (le, there, skip) = (le, sym (row_part k) ∙ there, λ j a b. sym (row_part j) ∙ skip j a b)
-
-    pub next_missing : (from : ℕ) → ((j : ℕ) → from ≤ j → member part j ≡ false) → (j : ℕ) → from ≤ j → in_row cells p j ≡ false
-    next_missing from none j h = sym (row_part j) ∙ none j h
+-- the words of row p, or none where there are none for it
+pub words_found : (cells : List ℕ) (p : ℕ) → p < numbers → (r : Option (Bor (List ℕ))) → IsGetRangeResult cells (p * (max_rows / word)) (p * (max_rows / word) + max_rows / word) r → WordsOf (in_row cells p) r
+words_found cells p small None (out, _) = λ o. in_row_none cells p (max_rows / word) o refl (⊎_elim (λ h. absurd (omega arith)) (λ h. omega arith) out)
+words_found cells p small (Some words) (found, _) = λ o.
+    let (_, inside, is, _) = found in
+    let same = ap (λ ws. member ws o) is ∙ row_part cells p (max_rows / word) (p * (max_rows / word)) (p * (max_rows / word) + max_rows / word) refl refl refl inside small o in
+    (same, λ on. (in_row_below cells p o on).0)
 
 module _ (f : ℕ → Bool) where
   abbrev pub Found : ℕ → ℕ → Type 0
@@ -80,3 +81,11 @@ module _ (f : ℕ → Bool) where
 
     pub passed_all : (from : ℕ) → Missing from → Passed from → (e : ℕ) → f e ≡ true → P e
     passed_all from none passed e m = passed e (walk_end from none e m) m
+
+-- a step through the set of which f is the test
+module _ (f : ℕ → Bool) (s t : RowSet) (same : (o : ℕ) → row_set s o ≡ f o) where
+  pub step_found : (o : ℕ) → GoesOn row_set (λ s. s.start) s (Some o) t → Found f s.start o
+  step_found o step = let (from, there, skip) = step.next in (from, sym (same o) ∙ there, λ j low less. sym (same j) ∙ skip j low less)
+
+  pub step_missing : GoesOn row_set (λ s. s.start) s None t → Missing f s.start
+  step_missing step j low = sym (same j) ∙ step.next j low

@@ -8,3 +8,4 @@ pub mod Tests
 pub mod Asking
 pub mod Naming
 pub mod Reading
+pub mod RowSets

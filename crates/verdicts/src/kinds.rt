@@ -15,10 +15,10 @@ pub(crate) enum Kind {
 pub(crate) fn is_kind(kind: Kind, row: Option<Row>) -> bool
     ensures { result ≡ kind_is kind row }
 {
-    match (kind, row) {
-        (Kind::OfVoid, Some(Row::Void)) => true,
-        (Kind::OfChannel, Some(Row::Channel(_, _))) => true,
-        (Kind::OfElement, Some(Row::Element { .. })) => true,
-        _ => false,
-    }
+    matches!(
+        (kind, row),
+        (Kind::OfVoid, Some(Row::Void))
+            | (Kind::OfChannel, Some(Row::Channel(_, _)))
+            | (Kind::OfElement, Some(Row::Element { .. }))
+    )
 }

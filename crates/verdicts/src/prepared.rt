@@ -20,6 +20,5 @@ pub struct Prepared {
 pub mod deciding;
 pub mod keeping;
 pub mod leaning;
-pub mod meeting;
 pub mod reading;
 pub mod sorting;

@@ -1,10 +1,12 @@
 // A set of rows for each row: asking it and going through it.
-ghost use Rattle.std.specs.Prelude.{◌≡◌, ℕ, true, Decides, slice_index};
-ghost use Rattle.sets.specs.Sets.{member, Next};
+ghost use Rattle.std.specs.Prelude.{◌≡◌, ℕ, ◌-◌, true, Decides};
+ghost use Rattle.std.specs.Iterator.{at_most};
+ghost use Rattle.sets.specs.Sets.{member, GoesOn};
+ghost use Rattle.forms.specs.Limits.{max_rows};
 ghost use Rattle.verdicts.specs.Ready.{in_row};
+ghost use Rattle.verdicts.specs.RowSets.{row_set, WordsOf};
 
 use forms::MAX_ROWS;
-use relation::admission::meets;
 use relation::offering::ROW_WORDS;
 use sets;
 
@@ -15,36 +17,56 @@ pub(crate) fn has(cells: &[u64], p: u8, o: u8) -> bool
     (o as usize) < MAX_ROWS && sets::test(cells, p as usize * MAX_ROWS + o as usize)
 }
 
-// The lowest member, not before the start, of the set of row p.
-pub(crate) fn next_in_row(cells: &[u64], p: u8, from: u8) -> Option<u8>
-    ensures { Next (in_row cells.now p) from result }
-{
-    let start = p as usize * ROW_WORDS;
-    if start + ROW_WORDS > cells.len() {
-        return None;
-    }
-    match sets::next(&cells[start..start + ROW_WORDS], from as usize) {
-        Some(k) => Some(k as u8),
-        None => None,
-    }
+// The set of one row. It goes through its members, from the lowest to the highest.
+#[derive(Clone, Copy)]
+pub struct RowSet<'a> {
+    cells: &'a [u64],
+    row: u8,
+    start: u8,
 }
 
-// A word of a set; past the last one no bit is set.
-fn word_at(words: &[u64], i: usize) -> u64
-    ensures { result ≡ slice_index words.now i }
-{
-    if i < words.len() { words[i] } else { 0 }
-}
-
-// Whether the set of row p has a row that is among the given ones.
-pub(crate) fn meets_in_row(cells: &[u64], p: u8, rows: &[u64]) -> bool
-    ensures { Decides result ((o : ℕ) × (in_row cells.now p o ≡ true) × (member rows.now o ≡ true)) }
-{
-    for i in 0..ROW_WORDS {
-        let own = word_at(cells, p as usize * ROW_WORDS + i);
-        if meets(own, word_at(rows, i)) {
-            return true;
+impl<'a> RowSet<'a> {
+    // The set of a row, of those of all rows.
+    pub(crate) fn of(cells: &'a [u64], row: u8) -> RowSet<'a>
+        ensures set { (o : ℕ) → row_set result o ≡ in_row cells.now row o }
+        ensures start { result.start ≡ 0 }
+    {
+        RowSet {
+            cells,
+            row,
+            start: 0,
         }
     }
-    false
+
+    // Its words, if there are any for its row.
+    fn words(&self) -> Option<&'a [u64]>
+        ensures { WordsOf (row_set self.now) result }
+    {
+        let first = self.row as usize * ROW_WORDS;
+        self.cells.get(first..first + ROW_WORDS)
+    }
+
+    // Whether it has a row that is among the given ones.
+    pub fn meets(&self, rows: &[u64]) -> bool
+        ensures { Decides result ((o : ℕ) × (row_set self.now o ≡ true) × (member rows.now o ≡ true)) }
+    {
+        match self.words() {
+            Some(words) => sets::meet(words, rows),
+            None => false,
+        }
+    }
+}
+
+impl<'a> Iterator for RowSet<'a> {
+    type Item = u8;
+
+    ghost next_gives = { GoesOn row_set (λ s. s.start) };
+
+    ghost remaining = { λ s. at_most (max_rows - s.start) };
+
+    fn next(&mut self) -> Option<u8> {
+        let o = sets::next(self.words()?, self.start as usize)? as u8;
+        self.start = o + 1;
+        Some(o)
+    }
 }

@@ -8,7 +8,7 @@ ghost use Rattle.verdicts.specs.Pairs.{related};
 ghost use Rattle.verdicts.specs.Ready.{in_row};
 ghost use Rattle.verdicts.specs.Tests.{capable, takes, meeting, agrees_at, agrees, labels_at, RowTaken};
 
-use super::super::rowsets::{has, next_in_row};
+use super::super::rowsets::{RowSet, has};
 use super::Prepared;
 use forms::{Capability, FormSource, MAX_ROWS, Row};
 use relation::admission::meets;
@@ -111,21 +111,14 @@ impl Prepared {
     pub(crate) fn labels_at(&self, p: u8) -> u64
         ensures { result ≡ labels_at self.now.labels p }
     {
-        if (p as usize) < MAX_ROWS {
-            self.labels[p as usize]
-        } else {
-            0
-        }
+        self.labels.get(p as usize).copied().unwrap_or(0)
     }
 
     // Whether row p offers a void row.
     pub(crate) fn offers_void(&self, p: u8) -> bool
         ensures { Decides result ((o : ℕ) × (in_row self.now.voids p o ≡ true)) }
     {
-        match next_in_row(&self.voids, p, 0) {
-            Some(_) => true,
-            None => false,
-        }
+        RowSet::of(&self.voids, p).next().is_some()
     }
 
     // Whether row q offers a channel row that the channel is below. The likeliest is asked first.
@@ -135,14 +128,7 @@ impl Prepared {
         if has(&self.channels, q, likely) && self.takes(pairs, c, likely) {
             return true;
         }
-        let mut from = 0;
-        while let Some(d) = next_in_row(&self.channels, q, from) {
-            if self.takes(pairs, c, d) {
-                return true;
-            }
-            from = d + 1;
-        }
-        false
+        RowSet::of(&self.channels, q).any(|d| self.takes(pairs, c, d))
     }
 
     // The same, of row c if it is a channel row.
@@ -164,28 +150,14 @@ impl Prepared {
     fn rows_taken(&self, pairs: &[u64], p: u8, q: u8) -> bool
         ensures { Decides result ((c : ℕ) → in_row self.now.channels p c ≡ true → RowTaken (rows_of self.now.table) (related (length (rows_of self.now.table)) pairs.now) (in_row self.now.channels q) c) }
     {
-        let mut from = 0;
-        while let Some(c) = next_in_row(&self.channels, p, from) {
-            if !self.row_taken(pairs, c, q) {
-                return false;
-            }
-            from = c + 1;
-        }
-        true
+        RowSet::of(&self.channels, p).all(|c| self.row_taken(pairs, c, q))
     }
 
     // Whether a row agrees with all inhabited element rows that row q offers.
     fn row_agrees(&self, pairs: &[u64], row: Option<Row>, q: u8) -> bool
         ensures { Decides result ((f : ℕ) → in_row self.now.elements q f ≡ true → agrees (related (length (rows_of self.now.table)) pairs.now) row (slice_get (rows_of self.now.table) f) ≡ true) }
     {
-        let mut from = 0;
-        while let Some(f) = next_in_row(&self.elements, q, from) {
-            if !self.agrees(pairs, row, f) {
-                return false;
-            }
-            from = f + 1;
-        }
-        true
+        RowSet::of(&self.elements, q).all(|f| self.agrees(pairs, row, f))
     }
 
     // The same, of row e. If q offers it, no other that q offers has a label in common with it.
@@ -203,41 +175,34 @@ impl Prepared {
     fn rows_agree(&self, pairs: &[u64], p: u8, q: u8) -> bool
         ensures { Decides result ((e : ℕ) → in_row self.now.elements p e ≡ true → (f : ℕ) → in_row self.now.elements q f ≡ true → agrees (related (length (rows_of self.now.table)) pairs.now) (slice_get (rows_of self.now.table) e) (slice_get (rows_of self.now.table) f) ≡ true) }
     {
-        let mut from = 0;
-        while let Some(e) = next_in_row(&self.elements, p, from) {
-            if !self.element_agrees(pairs, e, q) {
-                return false;
-            }
-            from = e + 1;
-        }
-        true
+        RowSet::of(&self.elements, p).all(|e| self.element_agrees(pairs, e, q))
     }
 
     // Whether row q offers a void row if row p does.
     fn voids_kept(&self, p: u8, q: u8) -> bool
         ensures { Decides result (((o : ℕ) × (in_row self.now.voids p o ≡ true)) → (o : ℕ) × (in_row self.now.voids q o ≡ true)) }
     {
-        if self.offers_void(p) {
-            self.offers_void(q)
-        } else {
-            true
-        }
+        !self.offers_void(p) || self.offers_void(q)
+    }
+
+    // The same, and whether it gives all labels that row p gives.
+    fn offers_kept(&self, p: u8, q: u8) -> bool
+        ensures { Decides result ((((o : ℕ) × (in_row self.now.voids p o ≡ true)) → (o : ℕ) × (in_row self.now.voids q o ≡ true)) × ((x : ℕ) → belongs x (labels_at self.now.labels p) ≡ true → belongs x (labels_at self.now.labels q) ≡ true)) }
+    {
+        self.voids_kept(p, q) && covers(self.labels_at(q), self.labels_at(p))
+    }
+
+    // Whether it takes the channel rows that row p offers, and agrees with the element rows.
+    fn parts_kept(&self, pairs: &[u64], p: u8, q: u8) -> bool
+        ensures { Decides result (((c : ℕ) → in_row self.now.channels p c ≡ true → RowTaken (rows_of self.now.table) (related (length (rows_of self.now.table)) pairs.now) (in_row self.now.channels q) c) × ((e : ℕ) → in_row self.now.elements p e ≡ true → (f : ℕ) → in_row self.now.elements q f ≡ true → agrees (related (length (rows_of self.now.table)) pairs.now) (slice_get (rows_of self.now.table) e) (slice_get (rows_of self.now.table) f) ≡ true)) }
+    {
+        self.rows_taken(pairs, p, q) && self.rows_agree(pairs, p, q)
     }
 
     // Whether the pair keeps the rules within the set of pairs. A number outside the table offers nothing.
     pub fn keeps(&self, pair: (u8, u8), pairs: &[u64]) -> bool
         ensures { Decides result (Keeps (rows_of self.now.table) (related (length (rows_of self.now.table)) pairs.now) pair.0 pair.1) }
     {
-        let (p, q) = pair;
-        if !self.voids_kept(p, q) {
-            return false;
-        }
-        if !covers(self.labels_at(q), self.labels_at(p)) {
-            return false;
-        }
-        if !self.rows_taken(pairs, p, q) {
-            return false;
-        }
-        self.rows_agree(pairs, p, q)
+        self.offers_kept(pair.0, pair.1) && self.parts_kept(pairs, pair.0, pair.1)
     }
 }

@@ -10,7 +10,7 @@ ghost use Rattle.verdicts.specs.Naming.{names_of_payloads, names_by_channel, nam
 ghost use Rattle.verdicts.specs.Pairs.{related, Leaned};
 ghost use Rattle.verdicts.specs.Ready.{in_row};
 
-use super::super::rowsets::{has, next_in_row};
+use super::super::rowsets::{RowSet, has};
 use super::Prepared;
 use super::deciding::PAIR_WORDS;
 use super::keeping::share;
@@ -102,16 +102,12 @@ impl Prepared {
         ensures is { result ≡ place_of (length (rows_of self.now.table)) pair }
         ensures small { (k : ℕ) → result ≡ Some k → k < max_rows * max_rows }
     {
-        match pair {
-            Some((p, q)) => {
-                let n = self.count();
-                if (p as usize) < n && (q as usize) < n {
-                    Some(p as usize * n + q as usize)
-                } else {
-                    None
-                }
-            }
-            None => None,
+        let (p, q) = pair?;
+        let n = self.count();
+        if (p as usize) < n && (q as usize) < n {
+            Some(p as usize * n + q as usize)
+        } else {
+            None
         }
     }
 
@@ -130,51 +126,9 @@ impl Prepared {
         requires { word * length pending.old ≡ max_rows * max_rows }
         ensures { Pended (λ k. (d : ℕ) × (in_row cells.now q d ≡ true) × NamedAt (length (rows_of self.now.table)) c (slice_get (rows_of self.now.table) d) k) done.now pending.old pending.new }
     {
-        let mut from = 0;
-        while let Some(d) = next_in_row(cells, q, from) {
+        for d in RowSet::of(cells, q) {
             self.name_rows(done, pending, c, self.table.row(d));
-            from = d + 1;
         }
-    }
-
-    // Notes the pairs that the rules name for the rows in the set of row p and those in the set of row q.
-    fn name_sets(&self, cells: &[u64], done: &[u64], pending: &mut [u64], pair: (u8, u8))
-        requires { word * length pending.old ≡ max_rows * max_rows }
-        ensures { Pended (NamedAmong (rows_of self.now.table) (in_row cells.now pair.0) (in_row cells.now pair.1)) done.now pending.old pending.new }
-    {
-        let mut from = 0;
-        while let Some(c) = next_in_row(cells, pair.0, from) {
-            self.name_row(cells, done, pending, self.table.row(c), pair.1);
-            from = c + 1;
-        }
-    }
-
-    // Notes the pairs that the rules name for a pair.
-    fn name_pair(&self, done: &[u64], pending: &mut [u64], pair: (u8, u8))
-        requires { word * length pending.old ≡ max_rows * max_rows }
-        ensures { Pended (NamedFor (rows_of self.now.table) pair.0 pair.1) done.now pending.old pending.new }
-    {
-        self.name_sets(&self.channels, done, pending, pair);
-        self.name_sets(&self.elements, done, pending, pair);
-    }
-
-    // The pairs that a pair of rows leans on; none, if it is no pair of rows.
-    pub fn leaned(&self, pair: (u8, u8)) -> [u64; PAIR_WORDS]
-        ensures leans { pair.0 < length (rows_of self.now.table) → pair.1 < length (rows_of self.now.table) → (a b : ℕ) → Decides (related (length (rows_of self.now.table)) result a b) (Leans (rows_of self.now.table) pair.0 pair.1 a b) }
-        ensures confined { Confined (rows_of self.now.table) (related (length (rows_of self.now.table)) result) }
-        ensures outside { (length (rows_of self.now.table) ≤ pair.0) ⊎ (length (rows_of self.now.table) ≤ pair.1) → (k : ℕ) → member result k ≡ false }
-        ensures rest { (k : ℕ) → length (rows_of self.now.table) * length (rows_of self.now.table) ≤ k → member result k ≡ false }
-    {
-        let n = self.count();
-        let mut done = [0; PAIR_WORDS];
-        let mut pending = [0; PAIR_WORDS];
-        pend(&done, &mut pending, self.place(Some(pair)));
-        while let Some(k) = sets::next(&pending, 0) {
-            sets::remove(&mut pending, k);
-            sets::put(&mut done, k);
-            self.name_pair(&done, &mut pending, ((k / n) as u8, (k % n) as u8));
-        }
-        done
     }
 
     // Notes the pairs that the rules name for row c and those in the set of row q, unless that was done before. What was done is in `met`.
@@ -202,7 +156,7 @@ impl Prepared {
     }
 
     // Notes the pairs that the rules name for the rows in the set of row p and those in the set of row q, each row and set once.
-    fn name_sets_once(
+    fn name_sets(
         &self,
         cells: &[u64],
         done: &[u64],
@@ -217,15 +171,13 @@ impl Prepared {
         ensures pended { Pended (NamedAmong (rows_of self.now.table) (in_row cells.now pair.0) (in_row cells.now pair.1)) done.now pending.old pending.new }
         ensures noted { Noted (rows_of self.now.table) cells.now met.new done.now pending.new }
     {
-        let mut from = 0;
-        while let Some(c) = next_in_row(cells, pair.0, from) {
+        for c in RowSet::of(cells, pair.0) {
             self.name_once(cells, done, pending, met, (c, pair.1));
-            from = c + 1;
         }
     }
 
     // Notes the pairs that the rules name for a pair. What was done for channels and for elements is in `links` and `parts`.
-    fn name_pair_once(
+    fn name_pair(
         &self,
         done: &[u64],
         pending: &mut [u64],
@@ -240,8 +192,8 @@ impl Prepared {
         ensures pended { Pended (NamedFor (rows_of self.now.table) pair.0 pair.1) done.now pending.old pending.new }
         ensures noted { Noted (rows_of self.now.table) self.now.channels links.new done.now pending.new × Noted (rows_of self.now.table) self.now.elements parts.new done.now pending.new }
     {
-        self.name_sets_once(&self.channels, done, pending, links, pair);
-        self.name_sets_once(&self.elements, done, pending, parts, pair);
+        self.name_sets(&self.channels, done, pending, links, pair);
+        self.name_sets(&self.elements, done, pending, parts, pair);
     }
 
     // The lowest pair that is pending, by its place.
@@ -249,10 +201,7 @@ impl Prepared {
         ensures { MatchOption result ((j : ℕ) → j < length (rows_of self.now.table) * length (rows_of self.now.table) → member pending.now j ≡ false) (λ k. (k < length (rows_of self.now.table) * length (rows_of self.now.table)) × (member pending.now k ≡ true)) }
     {
         let n = self.count();
-        match sets::next(pending, 0) {
-            Some(k) if k < n * n => Some(k),
-            _ => None,
-        }
+        sets::next(pending, 0).filter(|k| *k < n * n)
     }
 
     // The pairs that the pairs of a set lean on.
@@ -269,7 +218,7 @@ impl Prepared {
         while let Some(k) = self.lowest(&pending) {
             sets::remove(&mut pending, k);
             sets::put(&mut done, k);
-            self.name_pair_once(
+            self.name_pair(
                 &done,
                 &mut pending,
                 &mut links,
@@ -291,8 +240,8 @@ impl Prepared {
         pairs
     }
 
-    // The pairs that a pair of rows leans on, found by going through each row against each set once; none, if it is no pair of rows.
-    pub fn leaned_once(&self, pair: (u8, u8)) -> [u64; PAIR_WORDS]
+    // The pairs that a pair of rows leans on; none, if it is no pair of rows.
+    pub fn leaned(&self, pair: (u8, u8)) -> [u64; PAIR_WORDS]
         ensures leans { pair.0 < length (rows_of self.now.table) → pair.1 < length (rows_of self.now.table) → (a b : ℕ) → Decides (related (length (rows_of self.now.table)) result a b) (Leans (rows_of self.now.table) pair.0 pair.1 a b) }
         ensures confined { Confined (rows_of self.now.table) (related (length (rows_of self.now.table)) result) }
         ensures outside { (length (rows_of self.now.table) ≤ pair.0) ⊎ (length (rows_of self.now.table) ≤ pair.1) → (k : ℕ) → member result k ≡ false }

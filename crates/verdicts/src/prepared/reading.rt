@@ -6,10 +6,11 @@ ghost use Rattle.forms.specs.Rows.{belongs};
 ghost use Rattle.forms.specs.Schema.{Offers, Inhabited, IsChannel};
 ghost use Rattle.schema.specs.Rules.{OffersVoid};
 ghost use Rattle.verdicts.specs.Pairs.{related};
-ghost use Rattle.verdicts.specs.Reading.{NextWith, LabelledBy, ChannelTaken};
+ghost use Rattle.verdicts.specs.Reading.{LabelledBy, ChannelTaken};
 ghost use Rattle.verdicts.specs.Ready.{IsElement};
+ghost use Rattle.verdicts.specs.RowSets.{row_set};
 
-use super::super::rowsets::next_in_row;
+use super::super::rowsets::RowSet;
 use super::Prepared;
 use forms::{FormSource, Row};
 
@@ -28,18 +29,20 @@ impl Prepared {
         self.offers_void(p)
     }
 
-    // The first channel row, not before the start, that row p offers.
-    pub fn next_channel(&self, p: u8, from: u8) -> Option<u8>
-        ensures { NextWith (λ c. Offers (rows_of self.now.table) p c × IsChannel (rows_of self.now.table) c) from result }
+    // The channel rows that row p offers.
+    pub fn channels_of(&self, p: u8) -> RowSet<'_>
+        ensures set { (c : ℕ) → Decides (row_set result c) (Offers (rows_of self.now.table) p c × IsChannel (rows_of self.now.table) c) }
+        ensures start { result.start ≡ 0 }
     {
-        next_in_row(&self.channels, p, from)
+        RowSet::of(&self.channels, p)
     }
 
-    // The first inhabited element row, not before the start, that row p offers.
-    pub fn next_element(&self, p: u8, from: u8) -> Option<u8>
-        ensures { NextWith (λ e. Offers (rows_of self.now.table) p e × Inhabited (rows_of self.now.table) e × IsElement (rows_of self.now.table) e) from result }
+    // The inhabited element rows that row p offers.
+    pub fn elements_of(&self, p: u8) -> RowSet<'_>
+        ensures set { (e : ℕ) → Decides (row_set result e) (Offers (rows_of self.now.table) p e × Inhabited (rows_of self.now.table) e × IsElement (rows_of self.now.table) e) }
+        ensures start { result.start ≡ 0 }
     {
-        next_in_row(&self.elements, p, from)
+        RowSet::of(&self.elements, p)
     }
 
     // The labels of the inhabited element rows that row p offers.

@@ -10,22 +10,15 @@ ghost use Rattle.verdicts.specs.Ready.{in_row, labels_in, Labelling};
 ghost use Rattle.verdicts.specs.Sorting.{of_sort, picked};
 
 use super::super::kinds::{Kind, is_kind};
-use super::super::rowsets::next_in_row;
+use super::super::rowsets::RowSet;
 use super::Prepared;
 use forms::buffer::RowBuffer;
 use forms::{FormSource, MAX_ROWS, Row};
 use relation::AdmissionFault;
-use relation::admission::admit;
+use relation::admission::{admit, element_labels};
 use relation::analysis::Analysis;
 use relation::offering::{CELL_WORDS, ROW_WORDS};
 use sets;
-
-// Whether row p offers row o, which is inhabited and of that sort.
-fn picks(table: &RowBuffer, analysis: &Analysis, kind: Kind, p: u8, o: u8) -> bool
-    ensures { result ≡ picked (rows_of table.now) analysis.now kind p o }
-{
-    analysis.offers(p, o) && analysis.is_inhabited(o) && is_kind(kind, table.row(o))
-}
 
 // Whether row o is inhabited and of that sort.
 fn is_sort(table: &RowBuffer, analysis: &Analysis, kind: Kind, o: u8) -> bool
@@ -53,8 +46,8 @@ fn among(cells: &[u64; CELL_WORDS], rows: &[u64; ROW_WORDS]) -> [u64; CELL_WORDS
     ensures { (k : ℕ) → member result k ≡ (nat_lt k (max_rows * max_rows) && (member cells.now k && member rows.now (k % max_rows))) }
 {
     let mut left = [0; CELL_WORDS];
-    for i in 0..CELL_WORDS {
-        left[i] = cells[i] & rows[i % ROW_WORDS];
+    for (i, word) in cells.iter().enumerate() {
+        left[i] = *word & rows[i % ROW_WORDS];
     }
     left
 }
@@ -71,10 +64,7 @@ fn gather(table: &RowBuffer, analysis: &Analysis, kind: Kind) -> [u64; CELL_WORD
 fn labels_of(row: Option<Row>) -> u64
     ensures { result ≡ labels_in row }
 {
-    match row {
-        Some(Row::Element { labels, .. }) => labels,
-        _ => 0,
-    }
+    row.map_or(0, element_labels)
 }
 
 // The labels of the rows in the set of row p.
@@ -82,10 +72,8 @@ fn labels_in_row(table: &RowBuffer, elements: &[u64], p: u8) -> u64
     ensures { Labelling (rows_of table.now) (in_row elements.now p) result }
 {
     let mut labels = 0;
-    let mut from = 0;
-    while let Some(o) = next_in_row(elements, p, from) {
+    for o in RowSet::of(elements, p) {
         labels |= labels_of(table.row(o));
-        from = o + 1;
     }
     labels
 }

@@ -20,6 +20,6 @@ returns-then-q-n c =
     let n = c.count-n.result in
     let few : n ≤ max_rows = subst (λ m. m ≤ max_rows) (sym c.count-n.ensures) (buffer_laws t.table).few in
     record {
-      is = here n (length (rows_of t.table)) c.in-Some.p c.in-Some.q c.count-n.ensures c.if-p-n.true c.if-q-n.true ∙ ap (place_of (length (rows_of t.table))) (sym c.in-Some.is);
-      small = λ k. low n c.in-Some.p c.in-Some.q k few c.if-p-n.true c.if-q-n.true;
+      is = here n (length (rows_of t.table)) c.in_ok-p.p c.in_ok-p.q c.count-n.ensures c.if-p-n.true c.if-q-n.true ∙ ap (place_of (length (rows_of t.table))) (sym c.in_ok-p.was);
+      small = λ k. low n c.in_ok-p.p c.in_ok-p.q k few c.if-p-n.true c.if-q-n.true;
     }

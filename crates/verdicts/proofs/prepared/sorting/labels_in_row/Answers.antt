@@ -1,18 +1,38 @@
-use Rattle.std.proofs.Common.{ap, ◌∙◌, arith}
+use Rattle.std.proofs.Common.{sym, ap, subst, ◌∙◌}
+use lib.Bits.{bit_or}
 use Rattle.forms.specs.Buffers.{rows_of}
 use Rattle.verdicts.specs.Ready.{in_row, labels_in}
-use Rattle.verdicts.proofs.Walks.{in_row_below}
-use Rattle.verdicts.proofs.Labelling.{labels_none, labels_more, labels_all}
+use Rattle.verdicts.specs.RowSets.{row_set}
+use Rattle.verdicts.specs.declared.rowsets.RowSet.{RowSet}
+use Rattle.verdicts.proofs.Walks.{step_found, step_missing}
+use Rattle.verdicts.proofs.Labelling.{Labels, labels_none, labels_more, labels_all}
 use Rattle.verdicts.proofs.prepared.sorting.labels_in_row.Goals as goal
 
 pub loop-o-init : goal.loop-o-init
-loop-o-init c = labels_none (rows_of c.args.table.now) (in_row c.args.elements.now c.args.p)
-
-pub loop-o-smaller : goal.loop-o-smaller
-loop-o-smaller c = let low = (in_row_below c.args.elements.now c.args.p c.in-Some.o c.in-Some.ensures.1).0 in let from = c.in-Some.ensures.0 in omega arith
+loop-o-init c =
+    let rows = rows_of c.args.table.now in
+    let f = in_row c.args.elements.now c.args.p in
+    let is = c.into_iter-o-iterator.ensures.into_iter_gives in
+    record {
+      set = λ o. ap (λ s. row_set s o) is ∙ c.of-o-items.ensures.set o;
+      labels = subst (Labels rows f 0) (sym (ap (λ (s : RowSet). s.start) is ∙ c.of-o-items.ensures.start)) (labels_none rows f);
+    }
 
 pub loop-o-preserved : goal.loop-o-preserved
-loop-o-preserved c = labels_more (rows_of c.args.table.now) (in_row c.args.elements.now c.args.p) c.loop-o.labels c.loop-o.from c.in-Some.o c.labels_of-labels.result c.in-Some.ensures c.loop-o.invariant (c.labels_of-labels.ensures ∙ ap labels_in c.row.ensures)
+loop-o-preserved c =
+    let rows = rows_of c.args.table.now in
+    let f = in_row c.args.elements.now c.args.p in
+    let s = c.loop-o.o-iterator in
+    let step = c.in-Some.ensures.steps in
+    let set = c.loop-o.invariant.set in
+    record {
+      set = λ o. step.same o ∙ set o;
+      labels = subst (Labels rows f (bit_or c.loop-o.labels c.labels_of-labels.result)) (sym step.behind)
+          (labels_more rows f c.loop-o.labels s.start c.in-Some.o c.labels_of-labels.result (step_found f s c.next.new.self set c.in-Some.o step) c.loop-o.invariant.labels (c.labels_of-labels.ensures ∙ ap labels_in c.row.ensures));
+    }
 
 pub returns : goal.returns
-returns c = labels_all (rows_of c.args.table.now) (in_row c.args.elements.now c.args.p) c.loop-o.labels c.loop-o.from c.in_default.ensures c.loop-o.invariant
+returns c =
+    let f = in_row c.args.elements.now c.args.p in
+    let s = c.loop-o.o-iterator in
+    labels_all (rows_of c.args.table.now) f c.loop-o.labels s.start (step_missing f s c.next.new.self c.loop-o.invariant.set c.in-None.ensures.steps) c.loop-o.invariant.labels
