@@ -1,6 +1,7 @@
 -- The words of one node's marks, written one after another. Assumes nothing.
-use Rattle.std.proofs.Common.{◌≡◌, ℕ, ◌+◌, ◌*◌, ◌/◌, ◌%◌, ◌<◌, ◌≤◌, cond, eqb, ◌≢◌, ◌⊎◌, List, length, get_or, set, sym, refl, ap, ◌∙◌, subst, inl, inr, ⊎_elim, arith}
-use Rattle.std.proofs.lemmas.List.{get_or-set_same, get_or-set_other}
+use Rattle.std.proofs.Common.{rules, ◌≡◌, ℕ, ◌+◌, ◌*◌, ◌/◌, ◌%◌, ◌<◌, ◌≤◌, cond, eqb, ◌≢◌, ◌⊎◌, List, length, get_or, sym, ap, ◌∙◌, inl, inr, ⊎_elim, arith}
+use borrow.Rule.Slice.PartMut.{put_mid}
+use Rattle.std.proofs.lemmas.List.{places}
 use Rattle.std.proofs.lemmas.Bool.{cases_eq, cases_lt, eq-eqb, ne_eqb}
 use Rattle.sets.specs.Sets.{bit, member, word, top}
 use Rattle.sets.proofs.Membership.{member_at, member_top}
@@ -15,20 +16,12 @@ module _ (old rows : List ℕ) (start : ℕ) where
     pub laid : (k : ℕ) → k < w → get_or new (start + k) 0 ≡ get_or rows k 0
     pub kept : (k : ℕ) → (k < start) ⊎ (start + w ≤ k) → get_or new k 0 ≡ get_or old k 0
 
-  pub laid_none : Laid old 0
-  laid_none = record { laid = λ k h. absurd (omega arith); kept = λ k h. refl }
-
-  pub laid_more : (new : List ℕ) (w : ℕ) → start + w < length new → Laid new w → Laid (set new (start + w) (get_or rows w 0)) (w + 1)
-  laid_more new w room l = record {
-    laid = λ k h. ⊎_elim
-        (λ is. subst (λ x. get_or (set new (start + w) (get_or rows w 0)) (start + x) 0 ≡ get_or rows x 0) (sym is) (get_or-set_same new (start + w) (get_or rows w 0) 0 room))
-        (λ other. get_or-set_other new (start + w) (start + k) (get_or rows w 0) 0 (λ e. other (omega arith)) ∙ l.laid k (omega arith))
-        (cases_eq k w);
-    kept = λ k h. get_or-set_other new (start + w) k (get_or rows w 0) 0 (apart k h) ∙ l.kept k (⊎_elim inl (λ ge. inr (omega arith)) h);
-  }
-    where
-      apart : (k : ℕ) → (k < start) ⊎ (start + (w + 1) ≤ k) → k ≢ start + w
-      apart k h e = ⊎_elim (λ less. omega arith) (λ more. omega arith) h
+-- a part that is written over at once
+pub laid_over : (old rows : List ℕ) (start n : ℕ) → start + n ≤ length old → length rows ≡ n → Laid old rows start (put_mid start n old rows) n
+laid_over old rows start n room long = record {
+  laid = λ k less. search (rules, places);
+  kept = λ k. ⊎_elim (λ low. search (rules, places)) (λ high. search (rules, places));
+}
 
 -- so the rows are the marks of the node, and the marks of others stay
 pub laid_all : (old rows new : List ℕ) (node w : ℕ) → node < max_nodes → w ≡ row_words → Laid old rows (node * row_words) new w

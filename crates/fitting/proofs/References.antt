@@ -17,7 +17,6 @@ use Rattle.schema.proofs.Offered.{at_below}
 use Rattle.verdicts.specs.Pairs.{related}
 use Rattle.verdicts.proofs.Deciding.{between_parts, between_from, place_div, place_mod}
 use Rattle.fitting.specs.Marks.{Referred}
-use Rattle.fitting.proofs.Picking.{Picked}
 
 -- the row that the node refers to is added
 abbrev pub Refers : List ℕ → List ℕ → Node → Type 0
@@ -83,32 +82,26 @@ abbrev pub Wants : List Row → List ℕ → ℕ → ℕ → Type 0
 Wants rows set n k = (member set (k / n) ≡ true) × IsChannel rows (k % n)
 
 module _ (rows : List Row) (nodes : List Node) (n : ℕ) (is : n ≡ length rows) (few : n ≤ max_rows) (set : List ℕ) (referred : (a : ℕ) → a < max_rows → Decides (member set a) (Referred nodes a)) where
-  module _ (most : ℕ) (pairs : List ℕ) (i : ℕ) (all : i ≡ n * n) (so_far : Picked (Wants rows set n) most pairs i) where
-    picked : Picked (Wants rows set n) most pairs (n * n)
-    picked = subst (Picked (Wants rows set n) most pairs) all so_far
-
+  -- a set of the places below n * n that pass a test of them
+  module _ (Hit Miss : ℕ → Type 0) (pairs : List ℕ) (passed : (k : ℕ) → member pairs k ≡ true → (k < n * n) × Hit k) (others : (k : ℕ) → k < n * n → member pairs k ≡ false → Miss k)
+      (hit : (k : ℕ) → Hit k → Wants rows set n k) (miss : (k : ℕ) → Miss k → Wants rows set n k → ⊥) where
     wanted_pairs : (a b : ℕ) → Decides (related n pairs a b) ((a < n) × Referred nodes a × IsChannel rows b)
     wanted_pairs a b = (
       λ e.
           let (a<, b<, m) = between_parts n (member pairs) a b e in
-          let (_, (there, channel)) = (picked.has (a * n + b)).0 m in
+          let (there, channel) = hit (a * n + b) (passed (a * n + b) m).1 in
           (a<, (referred a (omega arith)).0 (subst (λ x. member set x ≡ true) (place_div n a b b<) there), subst (IsChannel rows) (place_mod n a b b<) channel),
       λ (a<, refer, channel).
           let b< : b < n = subst (λ x. b < x) (sym is) (at_below rows b channel.2) in
-          between_from n (member pairs) a b a< b< ((picked.has (a * n + b)).1 (
-            inside a b a< b<,
-            (
-              subst (λ x. member set x ≡ true) (sym (place_div n a b b<)) ((referred a (omega arith)).1 refer),
-              subst (IsChannel rows) (sym (place_mod n a b b<)) channel,
-            ),
-          )),
+          let wants : Wants rows set n (a * n + b) = (
+            subst (λ x. member set x ≡ true) (sym (place_div n a b b<)) ((referred a (omega arith)).1 refer),
+            subst (IsChannel rows) (sym (place_mod n a b b<)) channel,
+          ) in
+          between_from n (member pairs) a b a< b< (⊎_elim (λ on. on) (λ off. absurd (miss (a * n + b) (others (a * n + b) (mul-add-lt a n b n a< b<) off) wants)) (cases_Bool (member pairs (a * n + b)))),
     )
-      where
-        inside : (a b : ℕ) → a < n → b < n → a * n + b < n * n
-        inside a b h g = mul-add-lt a n b n h g
 
     wanted_rest : (k : ℕ) → n * n ≤ k → member pairs k ≡ false
-    wanted_rest k h = ⊎_elim (λ m. absurd (let (less, _) = (picked.has k).0 m in omega arith)) (λ e. e) (cases_Bool (member pairs k))
+    wanted_rest k h = ⊎_elim (λ m. absurd (let (less, _) = passed k m in omega arith)) (λ e. e) (cases_Bool (member pairs k))
 
     pub wanted_all :
         ((a b : ℕ) → Decides (related (length rows) pairs a b) ((a < length rows) × Referred nodes a × IsChannel rows b))

@@ -4,7 +4,6 @@ ghost use Rattle.forms.specs.Buffers.{rows_of};
 ghost use Rattle.forms.specs.Places.{Lowest};
 ghost use Rattle.forms.specs.Schema.{IsChannel};
 ghost use Rattle.documents.specs.Nodes.{SoundWith, SoundOver};
-ghost use Rattle.verdicts.specs.Kinds.{channel_row};
 ghost use Rattle.fitting.specs.Faults.{fit_refusal};
 ghost use Rattle.fitting.specs.Fittable.{UnsoundOver, Fittable, Unfit, FittableOrOneFault};
 
@@ -14,20 +13,11 @@ use forms::{LABELS, Row};
 use relation::offering::ROW_WORDS;
 use verdicts::prepared::Prepared;
 
-fn channel(row: Option<Row>) -> bool
-    ensures { result ≡ channel_row row }
-{
-    match row {
-        Some(Row::Channel(_, _)) => true,
-        _ => false,
-    }
-}
-
 // Whether the row with that number is a channel row.
 pub(crate) fn is_channel(prepared: &Prepared, number: u8) -> bool
     ensures { Decides result (IsChannel (rows_of prepared.now.table) number) }
 {
-    channel(prepared.row(number))
+    matches!(prepared.row(number), Some(Row::Channel(_, _)))
 }
 
 // Whether the node with number k points at lower nodes, has a label that there is, and refers to a channel row.
@@ -49,8 +39,8 @@ fn sound(prepared: &Prepared, k: usize, node: Node) -> bool
 fn unsound(prepared: &Prepared, nodes: &[Node]) -> Option<usize>
     ensures { MatchOption result (SoundOver (rows_of prepared.now.table) nodes.now) (λ k. Lowest (UnsoundOver (rows_of prepared.now.table) nodes.now) k) }
 {
-    for k in 0..nodes.len() {
-        if !sound(prepared, k, nodes[k]) {
+    for (k, node) in nodes.iter().enumerate() {
+        if !sound(prepared, k, *node) {
             return Some(k);
         }
     }

@@ -14,9 +14,9 @@ ghost use Rattle.fitting.specs.Marks.{Among, FitsNode, Marked, TellsRoot};
 
 use super::checking::check;
 use super::faults::FitFault;
-use super::rows::{channel_rows, element_rows, holding_rows, is_marked, paired_rows, void_rows};
+use super::rows::{channel_rows, element_rows, holding_rows, paired_rows, void_rows};
 use documents::nodes::Node;
-use relation::offering::ROW_WORDS;
+use relation::offering::{ROW_WORDS, has};
 use verdicts::prepared::Prepared;
 
 // The rows that a node fits, where the marks tell it of lower nodes, and the rows that offer a void row are given.
@@ -53,9 +53,8 @@ fn write_marks(marks: &mut [u64], node: usize, rows: &[u64; ROW_WORDS])
     requires room { node * row_words + row_words ≤ length marks.old }
     ensures { (q o : ℕ) → o < max_rows → cell marks.new q o ≡ (if nat_eq q node then member rows.now o else cell marks.old q o) }
 {
-    for w in 0..ROW_WORDS {
-        marks[node * ROW_WORDS + w] = rows[w];
-    }
+    let first = node * ROW_WORDS;
+    marks[first..first + ROW_WORDS].copy_from_slice(rows);
 }
 
 // Marks for each node the rows that it fits.
@@ -66,8 +65,8 @@ fn mark_nodes(prepared: &Prepared, pairs: &[u64], nodes: &[Node], marks: &mut [u
     ensures { Marked (rows_of prepared.now.table) (Among (length (rows_of prepared.now.table)) pairs.now) nodes.now marks.new }
 {
     let voids = void_rows(prepared);
-    for i in 0..nodes.len() {
-        let rows = node_rows(prepared, pairs, voids, marks, nodes[i]);
+    for (i, node) in nodes.iter().enumerate() {
+        let rows = node_rows(prepared, pairs, voids, marks, *node);
         write_marks(marks, i, &rows);
     }
 }
@@ -88,5 +87,5 @@ pub fn mark(
 {
     check(prepared, nodes, root, marks.len())?;
     mark_nodes(prepared, pairs, nodes, marks);
-    Ok(is_marked(marks, root as u16, row))
+    Ok(has(marks, root as u16, row))
 }

@@ -9,6 +9,7 @@ ghost use Rattle.verdicts.specs.Pairs.{related};
 ghost use Rattle.fitting.specs.Marks.{Referred};
 
 use super::checking::is_channel;
+use super::rows::numbers_where;
 use documents::nodes::Node;
 use relation::offering::ROW_WORDS;
 use sets;
@@ -28,9 +29,8 @@ pub(crate) fn row_count(prepared: &Prepared) -> usize
 fn refer(rows: &mut [u64], node: Node)
     ensures { (a : ℕ) → a < max_rows → max_rows ≤ word * length rows.old → Decides (member rows.new a) ((member rows.old a ≡ true) ⊎ (node ≡ Reference a)) }
 {
-    match node {
-        Node::Reference(row) => sets::put(rows, row as usize),
-        _ => {}
+    if let Node::Reference(row) = node {
+        sets::put(rows, row as usize);
     }
 }
 
@@ -39,8 +39,8 @@ fn referred(nodes: &[Node]) -> [u64; ROW_WORDS]
     ensures { (a : ℕ) → a < max_rows → Decides (member result a) (Referred nodes.now a) }
 {
     let mut rows = [0; ROW_WORDS];
-    for k in 0..nodes.len() {
-        refer(&mut rows, nodes[k]);
+    for node in nodes {
+        refer(&mut rows, *node);
     }
     rows
 }
@@ -60,11 +60,5 @@ pub fn wanted(prepared: &Prepared, nodes: &[Node]) -> [u64; PAIR_WORDS]
 {
     let rows = referred(nodes);
     let n = row_count(prepared);
-    let mut pairs = [0; PAIR_WORDS];
-    for k in 0..n * n {
-        if wants(prepared, &rows, n, k) {
-            sets::put(&mut pairs, k);
-        }
-    }
-    pairs
+    numbers_where(n * n, |k| wants(prepared, &rows, n, k))
 }

@@ -6,9 +6,9 @@ ghost use Rattle.relation.specs.Cells.{cell};
 ghost use Rattle.relation.specs.Judged.{Analyzed};
 
 use super::inhabiting::inhabited_rows;
-use super::offering::{CELL_WORDS, ROW_WORDS, offered_rows};
+use super::offering::{CELL_WORDS, ROW_WORDS, has, offered_rows};
 use forms::buffer::RowBuffer;
-use forms::{FormSource, MAX_ROWS, Row};
+use forms::{FormSource, Row};
 use sets;
 
 // Which rows each row offers, and which rows are inhabited.
@@ -23,7 +23,7 @@ impl Analysis {
     pub fn offers(&self, p: u8, o: u8) -> bool
         ensures { result ≡ (nat_lt o max_rows && cell self.now.offered p o) }
     {
-        (o as usize) < MAX_ROWS && sets::test(self.offered(), p as usize * MAX_ROWS + o as usize)
+        has(self.offered(), p as u16, o)
     }
 
     // For each row the set of the rows that it offers.

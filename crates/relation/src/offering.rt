@@ -1,5 +1,5 @@
 // Which rows each row offers: a set of rows for each row, to which the sets of its sides are added until nothing changes.
-ghost use Rattle.std.specs.Prelude.{◌≡◌, ℕ, ◌*◌, ◌<◌, ◌≤◌, true, false, length, Decides, bit_or};
+ghost use Rattle.std.specs.Prelude.{◌≡◌, ℕ, ◌*◌, ◌<◌, ◌≤◌, true, false, length, Decides, bit_or, nat_lt, ◌&&◌};
 ghost use Rattle.sets.specs.Sets.{word, bit};
 ghost use Rattle.forms.specs.Limits.{max_rows};
 ghost use Rattle.forms.specs.Schema.{Offers, NoUnion};
@@ -13,6 +13,13 @@ pub const ROW_WORDS: usize = MAX_ROWS / sets::WORD;
 
 // And a set of rows for each row has so many.
 pub const CELL_WORDS: usize = MAX_ROWS * ROW_WORDS;
+
+// Whether o belongs to the set of row p.
+pub fn has(cells: &[u64], p: u16, o: u8) -> bool
+    ensures { result ≡ (nat_lt o max_rows && cell cells.now p o) }
+{
+    (o as usize) < MAX_ROWS && sets::test(cells, p as usize * MAX_ROWS + o as usize)
+}
 
 // Whether the row is no union.
 fn is_leaf(row: Row) -> bool

@@ -6,16 +6,8 @@ ghost use Rattle.forms.specs.Limits.{max_rows};
 ghost use Rattle.verdicts.specs.Ready.{in_row};
 ghost use Rattle.verdicts.specs.RowSets.{row_set, WordsOf};
 
-use forms::MAX_ROWS;
 use relation::offering::ROW_WORDS;
 use sets;
-
-// Whether o belongs to the set of row p.
-pub(crate) fn has(cells: &[u64], p: u8, o: u8) -> bool
-    ensures { result ≡ in_row cells.now p o }
-{
-    (o as usize) < MAX_ROWS && sets::test(cells, p as usize * MAX_ROWS + o as usize)
-}
 
 // The set of one row. It goes through its members, from the lowest to the highest.
 #[derive(Clone, Copy)]

@@ -8,10 +8,11 @@ ghost use Rattle.verdicts.specs.Pairs.{related};
 ghost use Rattle.verdicts.specs.Ready.{in_row};
 ghost use Rattle.verdicts.specs.Tests.{capable, takes, meeting, agrees_at, agrees, labels_at, RowTaken};
 
-use super::super::rowsets::{RowSet, has};
+use super::super::rowsets::RowSet;
 use super::Prepared;
 use forms::{Capability, FormSource, MAX_ROWS, Row};
 use relation::admission::meets;
+use relation::offering::has;
 use sets;
 
 // Whether two label sets have a label in common.
@@ -125,7 +126,7 @@ impl Prepared {
     fn taken(&self, pairs: &[u64], c: (Capability, u8), likely: u8, q: u8) -> bool
         ensures { Decides result ((d : ℕ) × (in_row self.now.channels q d ≡ true) × (takes (related (length (rows_of self.now.table)) pairs.now) c.0 c.1 (slice_get (rows_of self.now.table) d) ≡ true)) }
     {
-        if has(&self.channels, q, likely) && self.takes(pairs, c, likely) {
+        if has(&self.channels, q as u16, likely) && self.takes(pairs, c, likely) {
             return true;
         }
         RowSet::of(&self.channels, q).any(|d| self.takes(pairs, c, d))
@@ -165,7 +166,7 @@ impl Prepared {
         ensures { Decides result ((f : ℕ) → in_row self.now.elements q f ≡ true → agrees (related (length (rows_of self.now.table)) pairs.now) (slice_get (rows_of self.now.table) e) (slice_get (rows_of self.now.table) f) ≡ true) }
     {
         let row = self.table.row(e);
-        if has(&self.elements, q, e) {
+        if has(&self.elements, q as u16, e) {
             return self.agrees(pairs, row, e);
         }
         self.row_agrees(pairs, row, q)

@@ -10,12 +10,12 @@ ghost use Rattle.verdicts.specs.Naming.{names_of_payloads, names_by_channel, nam
 ghost use Rattle.verdicts.specs.Pairs.{related, Leaned};
 ghost use Rattle.verdicts.specs.Ready.{in_row};
 
-use super::super::rowsets::{RowSet, has};
+use super::super::rowsets::RowSet;
 use super::Prepared;
 use super::deciding::PAIR_WORDS;
 use super::keeping::share;
 use forms::{Capability, FormSource, MAX_ROWS, Row};
-use relation::offering::CELL_WORDS;
+use relation::offering::{CELL_WORDS, has};
 use sets;
 
 // The pairs of payloads that the rules name for two channels.
@@ -149,7 +149,7 @@ impl Prepared {
         ensures noted { Noted (rows_of self.now.table) cells.now met.new done.now pending.new }
     {
         let (c, q) = pair;
-        if !has(met, c, q) {
+        if !has(met, c as u16, q) {
             self.name_row(cells, done, pending, self.table.row(c), q);
             sets::put(met, c as usize * MAX_ROWS + q as usize);
         }
