@@ -7,3 +7,4 @@ pub mod Suiting
 pub mod Complete
 pub mod Drawing
 pub mod Shown
+pub mod Lacking

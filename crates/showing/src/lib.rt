@@ -30,7 +30,7 @@ pub fn show(prepared: &Prepared, pair: (u8, u8), nodes: &mut [Node]) -> Option<u
     if !askable(n, pair, nodes.len()) {
         return None;
     }
-    let leaned = prepared.leaned_once(pair);
+    let leaned = prepared.leaned(pair);
     let mut below = leaned;
     prepared.narrow(&mut below);
     if sets::test(&below, pair.0 as usize * n + pair.1 as usize) {

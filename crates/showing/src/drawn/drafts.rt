@@ -19,11 +19,7 @@ use verdicts::prepared::Prepared;
 fn lowest(labels: u64) -> Option<u8>
     ensures { result ≡ lowest labels }
 {
-    if labels == 0 {
-        None
-    } else {
-        Some(labels.trailing_zeros() as u8)
-    }
+    (labels != 0).then(|| labels.trailing_zeros() as u8)
 }
 
 // The node of an element that has a label and whose parts have nodes.
@@ -49,14 +45,9 @@ fn lacks_void(prepared: &Prepared, p: u8, q: u8) -> bool
 fn untaken(prepared: &Prepared, below: &[u64], p: u8, q: u8) -> Option<u8>
     ensures { MatchOption result ((c : ℕ) → ChannelOf (rows_of prepared.now.table) p c → ChannelTaken (rows_of prepared.now.table) (related (length (rows_of prepared.now.table)) below.now) c q) (λ c. ChannelOf (rows_of prepared.now.table) p c × (ChannelTaken (rows_of prepared.now.table) (related (length (rows_of prepared.now.table)) below.now) c q → ⊥)) }
 {
-    let mut from = 0;
-    while let Some(c) = prepared.next_channel(p, from) {
-        if !prepared.takes_channel(below, c, q) {
-            return Some(c);
-        }
-        from = c + 1;
-    }
-    None
+    prepared
+        .channels_of(p)
+        .find(|c| !prepared.takes_channel(below, *c, q))
 }
 
 // Whether k is the place, among those of the pairs, of a pair of n rows that is in the first set and not in the second.
@@ -72,11 +63,8 @@ impl Drawn {
     pub(crate) fn node(&self, place: usize) -> Option<u16>
         ensures { result ≡ noted self.now.numbers place }
     {
-        if place < MAX_NODES && (self.numbers[place] as usize) < MAX_NODES {
-            Some(self.numbers[place])
-        } else {
-            None
-        }
+        let number = *self.numbers.get(place)?;
+        ((number as usize) < MAX_NODES).then_some(number)
     }
 
     // The node of a pair of n rows.
@@ -87,27 +75,7 @@ impl Drawn {
         self.node(n + (a as usize * n + b as usize))
     }
 
-    // A node for an element row.
-    fn lit_row(&self, row: Option<Row>) -> Option<Node>
-        ensures { result ≡ lighting_row self.now.numbers row }
-    {
-        match row {
-            Some(
-                Row::Element {
-                    labels,
-                    inside,
-                    following,
-                },
-            ) => element(
-                lowest(labels),
-                self.node(inside as usize),
-                self.node(following as usize),
-            ),
-            _ => None,
-        }
-    }
-
-    // The same, with a label that is none of the others.
+    // A node for an element row, with a label that is none of the others.
     fn lack_row(&self, others: u64, row: Option<Row>) -> Option<Node>
         ensures { result ≡ lacking_row self.now.numbers others row }
     {
@@ -177,14 +145,9 @@ impl Drawn {
     fn lit_element(&self, prepared: &Prepared, r: u8) -> Option<Node>
         ensures { Through (ElementOf (rows_of prepared.now.table) r) (λ e v. v ≡ lighting_row self.now.numbers (slice_get (rows_of prepared.now.table) e)) result }
     {
-        let mut from = 0;
-        while let Some(e) = prepared.next_element(r, from) {
-            if let Some(node) = self.lit_row(prepared.row(e)) {
-                return Some(node);
-            }
-            from = e + 1;
-        }
-        None
+        prepared
+            .elements_of(r)
+            .find_map(|e| self.lack_row(0, prepared.row(e)))
     }
 
     // A node that fits row r.
@@ -194,7 +157,7 @@ impl Drawn {
         if prepared.gives_void(r) {
             return Some(Node::Void);
         }
-        if let Some(c) = prepared.next_channel(r, 0) {
+        if let Some(c) = prepared.channels_of(r).next() {
             return Some(Node::Reference(c));
         }
         self.lit_element(prepared, r)
@@ -205,38 +168,26 @@ impl Drawn {
         ensures { DiffersIn (rows_of prepared.now.table) self.now.numbers q row result }
     {
         let n = prepared.count();
-        let mut from = 0;
-        while let Some(f) = prepared.next_element(q, from) {
-            if let Some(node) = self.differ_rows(n, row, prepared.row(f)) {
-                return Some(node);
-            }
-            from = f + 1;
-        }
-        None
+        prepared
+            .elements_of(q)
+            .find_map(|f| self.differ_rows(n, row, prepared.row(f)))
     }
 
     // The same, or one with a label that none of those rows has.
     fn tell_row(&self, prepared: &Prepared, row: Option<Row>, q: u8) -> Option<Node>
         ensures { ToldBy (rows_of prepared.now.table) self.now.numbers q row result }
     {
-        match self.lack_row(prepared.labels(q), row) {
-            Some(node) => Some(node),
-            None => self.differ_in(prepared, row, q),
-        }
+        self.lack_row(prepared.labels(q), row)
+            .or_else(|| self.differ_in(prepared, row, q))
     }
 
     // The same for one of the inhabited element rows that row p offers.
     fn tell_element(&self, prepared: &Prepared, p: u8, q: u8) -> Option<Node>
         ensures { Through (ElementOf (rows_of prepared.now.table) p) (λ e v. ToldBy (rows_of prepared.now.table) self.now.numbers q (slice_get (rows_of prepared.now.table) e) v) result }
     {
-        let mut from = 0;
-        while let Some(e) = prepared.next_element(p, from) {
-            if let Some(node) = self.tell_row(prepared, prepared.row(e), q) {
-                return Some(node);
-            }
-            from = e + 1;
-        }
-        None
+        prepared
+            .elements_of(p)
+            .find_map(|e| self.tell_row(prepared, prepared.row(e), q))
     }
 
     // A node that fits row p and not row q.

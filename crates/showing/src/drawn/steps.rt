@@ -53,13 +53,11 @@ impl Drawn {
         if self.node(place).is_some() {
             return false;
         }
-        match self.draft(prepared, leaned, below, place) {
-            Some(node) => {
-                self.add(nodes, place, node);
-                true
-            }
-            None => false,
-        }
+        let Some(node) = self.draft(prepared, leaned, below, place) else {
+            return false;
+        };
+        self.add(nodes, place, node);
+        true
     }
 
     // The same for all places but one.

@@ -1,9 +1,17 @@
-use Rattle.std.proofs.Common.{arith}
-use Rattle.showing.proofs.Walks.{offered_small}
+use Rattle.std.proofs.Common.{rules, ◌≡◌, Some, None, ◌∙◌}
+use Rattle.std.specs.List.{slice_get}
+use Rattle.forms.specs.Buffers.{rows_of}
+use Rattle.showing.specs.Drafts.{ElementOf, lighting_row, lacking_row}
+use Rattle.showing.proofs.Lacking.{lacking_none}
+use Rattle.showing.proofs.Walks.{through}
 use Rattle.showing.proofs.drawn.Drawn.lit_element.Goals as goal
+use borrow.Author.Tests.{tests}
 
-pub overflow_add-from : goal.overflow_add-from
-overflow_add-from c = let low = offered_small c.args.prepared.now c.in-Some.ensures.1.0 in omega arith
-
-pub loop-e-smaller : goal.loop-e-smaller
-loop-e-smaller c = let low = offered_small c.args.prepared.now c.in-Some.ensures.1.0 in let from = c.in-Some.ensures.0 in omega arith
+pub returns : goal.returns
+returns c =
+    let rows = rows_of c.args.prepared.now.table in
+    let numbers = c.args.self.now.numbers in
+    through (ElementOf rows c.args.r) c.elements_of.ensures.set c.elements_of.ensures.start (λ e v. v ≡ lighting_row numbers (slice_get rows e)) c.find_map.ensures.ran c.find_map.ensures.runs
+    (search (rules, tests))
+    (λ x v q k. let is : Some v ≡ lacking_row numbers 0 (slice_get rows x) = search (rules, tests) in is ∙ lacking_none numbers (slice_get rows x))
+    (λ x q k. (search (rules, tests), let is : None ≡ lacking_row numbers 0 (slice_get rows x) = search (rules, tests) in is ∙ lacking_none numbers (slice_get rows x)))

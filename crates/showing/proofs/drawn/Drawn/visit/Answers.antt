@@ -18,8 +18,8 @@ add-requires c =
     let within = c.requires.within in
     record { number = omega arith; room = omega arith; within = omega arith }
 
-pub returns-in-Some : goal.returns-in-Some
-returns-in-Some c =
+pub returns : goal.returns
+returns c =
     let t = c.args.prepared.now in
     let rows = rows_of t.table in
     let none : noted c.args.self.now.numbers c.args.place ≡ None = sym c.node.ensures ∙ not_some c.node.result c.is_some.result c.is_some.ensures c.if-is_some.false in
