@@ -1,5 +1,5 @@
 -- Where nothing more can be made, each inhabited row has a node, and so has each pair of rows that is not below. Assumes nothing.
-use Rattle.std.proofs.Common.{◌≡◌, ℕ, ◌+◌, ◌*◌, ◌<◌, true, not, ◌&&◌, List, length, Some, None, refl, ⊎_elim, mul-one, mul-add, arith}
+use Rattle.std.proofs.Common.{◌≡◌, ℕ, ◌+◌, ◌*◌, ◌<◌, true, not, ◌&&◌, List, length, Some, None, refl, ⊎_elim, mul-one, mul-add, arith, Option}
 use Rattle.std.proofs.lemmas.Nat.{mul-add-lt}
 use Rattle.std.proofs.lemmas.Bool.{both_ways, cases_Bool, and_parts, and_from, not-true, not_from_false}
 use Rattle.forms.specs.Schema.{Offers, Inhabited}
@@ -27,7 +27,7 @@ row_place n r h = let e = places_are n in omega arith
 pub pair_place_low : (n p q : ℕ) → p < n → q < n → pair_place n p q < n * (n + 1)
 pair_place_low n p q h g = let e = places_are n in let low = mul-add-lt p n q n h g in omega arith
 
-module _ (rows : List Row) (bounded : Bounded rows) (leaned below : Relation) (asked : Asked rows leaned below) (table : List Node) (numbers : List ℕ) (noting : Noted rows below table numbers)
+module _ (rows : List Row) (bounded : Bounded rows) (leaned below : Relation) (asked : Asked rows leaned below) (table : List Node) (numbers : List (Option ℕ)) (noting : Noted rows below table numbers)
     (settled : (k : ℕ) → k < places rows → Settled rows leaned below numbers k) where
   abbrev n : ℕ
   n = length rows

@@ -1,5 +1,5 @@
 -- What one step, one round and all of them leave. Assumes nothing.
-use Rattle.std.proofs.Common.{◌≡◌, ℕ, ◌+◌, ◌-◌, ◌*◌, ◌<◌, ◌≤◌, Bool, true, false, ◌≢◌, List, [], ◌∷◌, ◌++◌, length, take, drop, set, replicate, Some, None, sym, refl, ap, ◌∙◌, subst, ⊎_elim, arith, length-append, length-set, length-take}
+use Rattle.std.proofs.Common.{◌≡◌, ℕ, ◌+◌, ◌-◌, ◌*◌, ◌<◌, ◌≤◌, Bool, true, false, ◌≢◌, List, [], ◌∷◌, ◌++◌, length, take, drop, set, replicate, Some, None, sym, refl, ap, ◌∙◌, subst, ⊎_elim, arith, length-append, length-set, length-take, Option}
 use lib.ListN.{length-replicate}
 use Rattle.std.proofs.lemmas.List.{take_more_set, drop-set-lt, drop-drop}
 use Rattle.std.proofs.lemmas.Nat.{mul-le}
@@ -43,19 +43,19 @@ places_few n few = mul-le n (n + 1) max_rows (max_rows + 1) few (omega arith)
 
 module _ (rows : List Row) (below : Relation) where
   -- at first there is no node
-  pub holds_none : (nodes : List Node) (N w : ℕ) → N ≡ max_nodes → max_nodes ≤ w → places rows ≤ length nodes → Holds rows below nodes 0 (replicate N w)
-  holds_none nodes N w long none room = record {
+  pub holds_none : (nodes : List Node) (N : ℕ) → N ≡ max_nodes → places rows ≤ length nodes → Holds rows below nodes 0 (replicate N None)
+  holds_none nodes N long room = record {
     room = room;
     within = omega arith;
     noting = record {
-      long = length-replicate {A = ℕ} N w ∙ long;
+      long = length-replicate {A = Option ℕ} N None ∙ long;
       sound = record { each = λ k e. never (cc) };
       counted = omega arith;
-      each = λ k m e. let no = nothing_noted N w k long none in never (cc);
+      each = λ k m e. let no = nothing_noted N k in never (cc);
     };
   }
 
-  module _ (nodes : List Node) (used : ℕ) (numbers : List ℕ) (holds : Holds rows below nodes used numbers) where
+  module _ (nodes : List Node) (used : ℕ) (numbers : List (Option ℕ)) (holds : Holds rows below nodes used numbers) where
     used_is : length (take used nodes) ≡ used
     used_is = let h = holds.within in omega (arith, length-take used nodes)
 
@@ -81,56 +81,56 @@ module _ (rows : List Row) (below : Relation) where
       one_more : take (used + 1) (set nodes used v) ≡ table ++ (v ∷ [])
       one_more = take_more_set nodes used v (let h = used_less k low none in let r = holds.room in omega arith)
 
-      noting_more : Noted rows below (table ++ (v ∷ [])) (set numbers k used)
+      noting_more : Noted rows below (table ++ (v ∷ [])) (set numbers k (Some used))
       noting_more =
           let (sound, made) = drafted_suits rows bounded determined leaned below asked table numbers holds.noting k v drafts in
           let (d, stands, suits) = made in
           record {
-            long = length-set numbers k used ∙ holds.noting.long;
+            long = length-set numbers k (Some used) ∙ holds.noting.long;
             sound = sound_more table v rows holds.noting.sound sound;
             counted =
                 let h = holds.noting.counted in
-                let g = noted_more numbers k used place_within holds.noting.long number_low (places rows) low none in
+                let g = noted_more numbers k used place_within (places rows) low none in
                 omega (arith, length-append table (v ∷ []));
             each = λ j m e. ⊎_elim
                 (λ same. (
                   d,
                   (
-                      let is : Some used ≡ Some m = sym (noted_here numbers k used place_within holds.noting.long number_low) ∙ ap (noted (set numbers k used)) (sym same) ∙ e in
+                      let is : Some used ≡ Some m = sym (noted_here numbers k used place_within) ∙ ap (noted (set numbers k (Some used))) (sym same) ∙ e in
                       let number : length table ≡ m = used_is ∙ (cc) in
                       subst (λ x. StandsFor (table ++ (v ∷ [])) x d) number stands),
                   subst (λ x. Suits rows below x d) (sym same) suits,
                 ))
                 (λ other.
-                let (d', stands', suits') = holds.noting.each j m (sym (noted_there numbers k used place_within holds.noting.long number_low j other) ∙ e) in
+                let (d', stands', suits') = holds.noting.each j m (sym (noted_there numbers k used place_within j other) ∙ e) in
                 (d', stands_more table v stands', suits'))
                 (cases_eq j k);
           }
 
-      holds_more : Holds rows below (set nodes used v) (used + 1) (set numbers k used)
+      holds_more : Holds rows below (set nodes used v) (used + 1) (set numbers k (Some used))
       holds_more = record {
         room = let h = holds.room in omega (arith, length-set nodes used v);
         within = let h = used_less k low none in let r = holds.room in omega (arith, length-set nodes used v);
-        noting = subst (λ t. Noted rows below t (set numbers k used)) (sym one_more) noting_more;
+        noting = subst (λ t. Noted rows below t (set numbers k (Some used))) (sym one_more) noting_more;
       }
 
-      visited_added : Visited rows leaned below k nodes (set nodes used v) used (used + 1) numbers (set numbers k used) true
+      visited_added : Visited rows leaned below k nodes (set nodes used v) used (used + 1) numbers (set numbers k (Some used)) true
       visited_added = record {
         holds = holds_more;
         grown = grown_one nodes used v;
-        others = noted_there numbers k used place_within holds.noting.long number_low;
-        added = λ _. (refl, noted_here numbers k used place_within holds.noting.long number_low);
+        others = noted_there numbers k used place_within;
+        added = λ _. (refl, noted_here numbers k used place_within);
         idle = λ e. absurd (both_ways true e refl);
       }
 
-      pub visited_by : (after : List Node) (more : ℕ) (new : List ℕ) → after ≡ set nodes used v → more ≡ used + 1 → new ≡ set numbers k used → Visited rows leaned below k nodes after used more numbers new true
+      pub visited_by : (after : List Node) (more : ℕ) (new : List (Option ℕ)) → after ≡ set nodes used v → more ≡ used + 1 → new ≡ set numbers k (Some used) → Visited rows leaned below k nodes after used more numbers new true
       visited_by after more new e f g =
           subst (λ x. Visited rows leaned below k nodes x used more numbers new true) (sym e)
           (subst (λ x. Visited rows leaned below k nodes (set nodes used v) used x numbers new true) (sym f)
           (subst (λ x. Visited rows leaned below k nodes (set nodes used v) used (used + 1) numbers x true) (sym g) visited_added))
 
 module _ (rows : List Row) (leaned below : Relation) (but : ℕ) where
-  module _ (before after : List Node) (used more : ℕ) (numbers new : List ℕ) (k : ℕ) (rounded : Rounded rows leaned below but k before after used more numbers new) where
+  module _ (before after : List Node) (used more : ℕ) (numbers new : List (Option ℕ)) (k : ℕ) (rounded : Rounded rows leaned below but k before after used more numbers new) where
     pub rounded_skip : k ≡ but → Rounded rows leaned below but (k + 1) before after used more numbers new
     rounded_skip same = record {
       holds = rounded.holds;
@@ -139,7 +139,7 @@ module _ (rows : List Row) (leaned below : Relation) (but : ℕ) where
       idle = λ e. let (is, all) = rounded.idle e in (is, λ j low other. all j (omega arith) other);
     }
 
-    pub rounded_more : (after' : List Node) (more' : ℕ) (new' : List ℕ) (r : Bool) → k ≢ but → Visited rows leaned below k after after' more more' new new' r → Rounded rows leaned below but (k + 1) before after' used more' numbers new'
+    pub rounded_more : (after' : List Node) (more' : ℕ) (new' : List (Option ℕ)) (r : Bool) → k ≢ but → Visited rows leaned below k after after' more more' new new' r → Rounded rows leaned below but (k + 1) before after' used more' numbers new'
     rounded_more after' more' new' r other visited = record {
       holds = visited.holds;
       grown = grown_then rounded.grown visited.grown;
@@ -156,7 +156,7 @@ module _ (rows : List Row) (leaned below : Relation) (but : ℕ) where
 -- THE WHOLE
 -- a round in which the asked pair had to wait adds a node
 pub round_grows : (rows : List Row) → Bounded rows → (leaned below : Relation) → Asked rows leaned below → (p q but : ℕ) → but ≡ pair_place (length rows) p q → leaned p q ≡ true → (below p q ≡ true → ⊥) →
-    (after : List Node) (used more : ℕ) (numbers new : List ℕ) {before : List Node} → noted numbers but ≡ None → Settled rows leaned below numbers but → Rounded rows leaned below but (places rows) before after used more numbers new → used < more
+    (after : List Node) (used more : ℕ) (numbers new : List (Option ℕ)) {before : List Node} → noted numbers but ≡ None → Settled rows leaned below numbers but → Rounded rows leaned below but (places rows) before after used more numbers new → used < more
 round_grows rows bounded leaned below asked p q but at l nb after used more numbers new none here rounded = ⊎_elim
     (λ same.
     let (is, all) = rounded.idle (sym same) in
@@ -166,7 +166,7 @@ round_grows rows bounded leaned below asked p q but at l nb after used more numb
     (λ other. let up = rounded.grown.up in omega arith)
     (cases_eq used more)
 
-pub shows : (rows : List Row) (below : Relation) (p q but used more : ℕ) (nodes : List Node) (numbers : List ℕ) → but ≡ pair_place (length rows) p q → p < length rows → q < length rows → Holds rows below nodes more numbers → more ≡ used + 1 → noted numbers but ≡ Some used → Witnesses rows p q (take more nodes)
+pub shows : (rows : List Row) (below : Relation) (p q but used more : ℕ) (nodes : List Node) (numbers : List (Option ℕ)) → but ≡ pair_place (length rows) p q → p < length rows → q < length rows → Holds rows below nodes more numbers → more ≡ used + 1 → noted numbers but ≡ Some used → Witnesses rows p q (take more nodes)
 shows rows below p q but used more nodes numbers at p< q< holds plus e =
     let (d, stands, suits) = holds.noting.each but used e in
     let (_, f, nf) = suits.pair p q p< q< at in
@@ -181,17 +181,17 @@ shows rows below p q but used more nodes numbers at p< q< holds plus e =
     }
 
 -- ROUND AFTER ROUND
-pub waits_none : (rows : List Row) (below : Relation) (asked : ℕ) (nodes : List Node) (used : ℕ) (numbers : List ℕ) (N w : ℕ) → N ≡ max_nodes → max_nodes ≤ w → used ≡ 0 → numbers ≡ replicate N w → places rows ≤ length nodes → Waits rows below asked nodes nodes used numbers
-waits_none rows below asked nodes used numbers N w long none zero start room =
+pub waits_none : (rows : List Row) (below : Relation) (asked : ℕ) (nodes : List Node) (used : ℕ) (numbers : List (Option ℕ)) (N : ℕ) → N ≡ max_nodes → used ≡ 0 → numbers ≡ replicate N None → places rows ≤ length nodes → Waits rows below asked nodes nodes used numbers
+waits_none rows below asked nodes used numbers N long zero start room =
     subst (λ u. Waits rows below asked nodes nodes u numbers) (sym zero) (subst (Waits rows below asked nodes nodes 0) (sym start) (record {
-      holds = holds_none rows below nodes N w long none room;
+      holds = holds_none rows below nodes N long room;
       grown = grown_none nodes 0;
-      none = nothing_noted N w asked long none;
+      none = nothing_noted N asked;
     }))
 
-module _ (rows : List Row) (leaned below : Relation) (but : ℕ) (before nodes nodes' : List Node) (used used' : ℕ) (numbers numbers' : List ℕ) (r : Bool)
+module _ (rows : List Row) (leaned below : Relation) (but : ℕ) (before nodes nodes' : List Node) (used used' : ℕ) (numbers numbers' : List (Option ℕ)) (r : Bool)
     (waits : Waits rows below but before nodes used numbers) (visited : Visited rows leaned below but nodes nodes' used used' numbers numbers' r) where
-  module _ (off : r ≡ false) (nodes'' : List Node) (used'' : ℕ) (numbers'' : List ℕ) (rounded : Rounded rows leaned below but (places rows) nodes' nodes'' used' used'' numbers' numbers'') where
+  module _ (off : r ≡ false) (nodes'' : List Node) (used'' : ℕ) (numbers'' : List (Option ℕ)) (rounded : Rounded rows leaned below but (places rows) nodes' nodes'' used' used'' numbers' numbers'') where
     still : noted numbers' but ≡ None
     still = let (_, _, is, _) = visited.idle off in ap (λ x. noted x but) is ∙ waits.none
 

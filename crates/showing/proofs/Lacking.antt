@@ -13,7 +13,7 @@ none_taken l =
     ap (bit_xor l) zero ∙ xor_disjoint l 0 zero ∙ (let same : l + 0 ≡ l = omega arith in same)
 
 -- a label that is none of no others is just a label
-pub lacking_none : (numbers : List ℕ) (row : Option Row) → lacking_row numbers 0 row ≡ lighting_row numbers row
+pub lacking_none : (numbers : List (Option ℕ)) (row : Option Row) → lacking_row numbers 0 row ≡ lighting_row numbers row
 lacking_none numbers None = refl
 lacking_none numbers (Some Void) = refl
 lacking_none numbers (Some Nothing) = refl

@@ -76,7 +76,7 @@ element_none {x} {i} {f} e a b c p q r = go x i f e p q r
     go (Some x) (Some i) (Some f) e p q r = never (cc)
 
 -- ROWS
-module _ (rows : List Row) (bounded : Bounded rows) (numbers : List ℕ) where
+module _ (rows : List Row) (bounded : Bounded rows) (numbers : List (Option ℕ)) where
   lit_some : (r e : ℕ) (v : Node) → ElementOf rows r e → Some v ≡ lighting_row numbers (slice_get rows e) → Lights rows numbers r v
   lit_some r e v (offers, inh, of) h =
       let (l, i, m, is) = of in

@@ -20,7 +20,7 @@ pub positive : (n k : ℕ) → k < n * n → 0 < n
 positive zero k h = absurd (omega arith)
 positive (suc n) k h = omega arith
 
-module _ (rows : List Row) (leaned below numbers : List ℕ) where
+module _ (rows : List Row) (leaned below : List ℕ) (numbers : List (Option ℕ)) where
   abbrev n : ℕ
   n = length rows
 

@@ -1,5 +1,5 @@
 -- A node that was drafted for a place stands for a document for it. Assumes nothing.
-use Rattle.std.proofs.Common.{◌≡◌, ℕ, ◌<◌, true, List, [], ◌∷◌, ◌++◌, length, Some, refl, subst, subst₂, arith}
+use Rattle.std.proofs.Common.{◌≡◌, ℕ, ◌<◌, true, List, [], ◌∷◌, ◌++◌, length, Some, refl, subst, subst₂, arith, Option}
 use Rattle.forms.specs.Schema.{IsChannel}
 use Rattle.forms.specs.Rows.{belongs}
 use Rattle.forms.specs.Documents.{Document}
@@ -23,7 +23,7 @@ use Rattle.showing.specs.Drawing.{Asked, Suits, Noted}
 use Rattle.showing.proofs.Places.{one_pair}
 use Rattle.showing.proofs.Tables.{stands_below, stands_more, last_is}
 
-module _ (rows : List Row) (bounded : Bounded rows) (determined : Determined rows) (leaned below : Relation) (asked : Asked rows leaned below) (table : List Node) (numbers : List ℕ) (noting : Noted rows below table numbers) where
+module _ (rows : List Row) (bounded : Bounded rows) (determined : Determined rows) (leaned below : Relation) (asked : Asked rows leaned below) (table : List Node) (numbers : List (Option ℕ)) (noting : Noted rows below table numbers) where
   abbrev n : ℕ
   n = length rows
 

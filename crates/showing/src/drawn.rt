@@ -1,11 +1,11 @@
 // The rows and the pairs of rows that have a node already.
 use documents::nodes::MAX_NODES;
 
-// So many nodes are used. A row and a pair of rows that have a node have its number, and the others MAX_NODES: row r at place r, and the pair of a and b at n + a n + b.
+// So many nodes are used. A row and a pair of rows that have a node have its number: row r at place r, and the pair of a and b at n + a n + b.
 #[derive(Drop)]
 pub(crate) struct Drawn {
     used: usize,
-    numbers: [u16; MAX_NODES],
+    numbers: [Option<u16>; MAX_NODES],
 }
 
 pub mod drafts;

@@ -10,7 +10,7 @@ ghost use Rattle.verdicts.specs.Reading.{ChannelTaken};
 ghost use Rattle.showing.specs.Drafts.{noted, pair_place, lowest, element_node, lighting_row, lacking_row, difference_from, difference_of_rows, Through, ElementOf, ChannelOf, DiffersIn, ToldBy, Lights, Unlit, Tells, Untold, Drafts, Undrafted};
 
 use super::Drawn;
-use documents::nodes::{MAX_NODES, Node};
+use documents::nodes::Node;
 use forms::Row;
 use sets;
 use verdicts::prepared::Prepared;
@@ -63,8 +63,7 @@ impl Drawn {
     pub(crate) fn node(&self, place: usize) -> Option<u16>
         ensures { result ≡ noted self.now.numbers place }
     {
-        let number = *self.numbers.get(place)?;
-        ((number as usize) < MAX_NODES).then_some(number)
+        *self.numbers.get(place)?
     }
 
     // The node of a pair of n rows.

@@ -1,5 +1,5 @@
 // Making nodes one after another, until the asked pair has one.
-ghost use Rattle.std.specs.Prelude.{◌≡◌, ◌+◌, ◌<◌, ◌≤◌, true, length, take, drop, replicate, ◌≢◌, slice_set};
+ghost use Rattle.std.specs.Prelude.{◌≡◌, ◌+◌, ◌<◌, ◌≤◌, true, length, take, drop, replicate, ◌≢◌, slice_set, Some, None};
 ghost use Rattle.forms.specs.Buffers.{rows_of};
 ghost use Rattle.documents.specs.Limits.{max_nodes};
 ghost use Rattle.verdicts.specs.Pairs.{related};
@@ -14,11 +14,11 @@ impl Drawn {
     // Nothing has a node.
     fn none() -> Drawn
         ensures used { result.used ≡ 0 }
-        ensures numbers { result.numbers ≡ replicate max_nodes max_nodes }
+        ensures numbers { result.numbers ≡ replicate max_nodes None }
     {
         Drawn {
             used: 0,
-            numbers: [MAX_NODES as u16; MAX_NODES],
+            numbers: [None; MAX_NODES],
         }
     }
 
@@ -29,10 +29,10 @@ impl Drawn {
         requires within { place < max_nodes }
         ensures nodes { nodes.new ≡ slice_set nodes.old self.old.used node }
         ensures used { self.new.used ≡ self.old.used + 1 }
-        ensures numbers { self.new.numbers ≡ slice_set self.old.numbers place self.old.used }
+        ensures numbers { self.new.numbers ≡ slice_set self.old.numbers place (Some self.old.used) }
     {
         nodes[self.used] = node;
-        self.numbers[place] = self.used as u16;
+        self.numbers[place] = Some(self.used as u16);
         self.used += 1;
     }
 

@@ -1,4 +1,4 @@
-use Rattle.std.proofs.Common.{◌<◌, length, sym, refl, ap, subst, arith}
+use Rattle.std.proofs.Common.{◌<◌, length, sym, refl, ap, subst}
 use Rattle.forms.specs.Buffers.{rows_of}
 use Rattle.documents.specs.Limits.{max_nodes}
 use Rattle.verdicts.specs.Facts.{bounded_of}
@@ -13,7 +13,7 @@ pub loop-drawn-init : goal.loop-drawn-init
 loop-drawn-init c =
     let rows = rows_of c.args.prepared.now.table in
     let d = c.none-drawn.result in
-    waits_none rows (related (length rows) c.args.below.now) (pair_place c.count-n.result c.args.pair.0 c.args.pair.1) c.args.nodes.now d.used d.numbers max_nodes max_nodes refl (omega arith) c.none-drawn.ensures.used c.none-drawn.ensures.numbers c.requires.room
+    waits_none rows (related (length rows) c.args.below.now) (pair_place c.count-n.result c.args.pair.0 c.args.pair.1) c.args.nodes.now d.used d.numbers max_nodes refl c.none-drawn.ensures.used c.none-drawn.ensures.numbers c.requires.room
 
 pub visit-requires : goal.visit-requires
 visit-requires c =
