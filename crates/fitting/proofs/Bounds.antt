@@ -1,8 +1,7 @@
 -- What is found of a row is found only of rows of the table. Assumes nothing.
-use Rattle.std.proofs.Common.{◌≡◌, ℕ, ◌^◌, ◌<◌, ◌≤◌, Bool, true, false, ltb, List, length, sym, refl, ap, ◌∙◌, ⊎_elim, arith}
+use Rattle.std.proofs.Common.{◌≡◌, ℕ, ◌^◌, ◌<◌, ◌≤◌, Bool, true, ltb, List, length, sym, ◌∙◌, ⊎_elim, arith}
 use Rattle.std.specs.List.{slice_get}
-use Rattle.std.proofs.lemmas.Option.{slice_get_past}
-use Rattle.std.proofs.lemmas.Bool.{both_ways, cases_lt, cases_Bool, le-ltb}
+use Rattle.std.proofs.lemmas.Bool.{cases_Bool, le-ltb}
 use Rattle.sets.specs.Sets.{member}
 use Rattle.forms.specs.Limits.{label_count}
 use Rattle.forms.specs.Rows.{belongs}
@@ -11,8 +10,7 @@ use Rattle.forms.specs.declared.Row.{Row}
 use Rattle.schema.specs.Rules.{OffersVoid}
 use Rattle.schema.proofs.Offered.{offering_below, label_below}
 use Rattle.verdicts.specs.Ready.{IsElement}
-use Rattle.verdicts.proofs.Deciding.{between_parts}
-use Rattle.fitting.specs.Marks.{Among, holds}
+use Rattle.fitting.specs.Marks.{holds}
 
 module _ (rows : List Row) where
   pub void_below : (r : ℕ) → OffersVoid rows r → r < length rows
@@ -31,15 +29,9 @@ module _ (rows : List Row) where
   pub part_below : (some : List ℕ) (r : ℕ) → OffersPart some r → r < length rows
   part_below some r (e, offers, _, _, _) = offering_below rows offers
 
-  pub paired_below : (pairs : List ℕ) (c d : ℕ) → Among (length rows) pairs c d → d < length rows
-  paired_below pairs c d e = (between_parts (length rows) (member pairs) c d e).1
-
   -- an element row that holds two nodes
   abbrev pub Holding : (ℕ → ℕ → Bool) → ℕ → ℕ → ℕ → ℕ → Type 0
   Holding M x a b e = holds M x a b (slice_get rows e) ≡ true
-
-  pub holding_below : (M : ℕ → ℕ → Bool) (x a b e : ℕ) → Holding M x a b e → e < length rows
-  holding_below M x a b e h = ⊎_elim (λ less. less) (λ past. absurd (both_ways false refl (sym (ap (holds M x a b) (slice_get_past rows e past)) ∙ h))) (cases_lt e (length rows))
 
 -- a label set has no other labels than those that there are
 pub no_label : (labels label : ℕ) → labels < 2 ^ label_count → label_count ≤ label → ltb label label_count ≡ belongs label labels

@@ -1,8 +1,8 @@
 -- Rows with numbers outside, and why there is one fault at most. Assumes nothing.
-use Rattle.std.proofs.Common.{◌≡◌, ℕ, ◌+◌, ◌<◌, ◌⊎◌, List, [], ◌∷◌, length, Some, Ok, Err, Result, refl, ap, subst, inl, inr, ⊎_elim, arith}
+use Rattle.std.proofs.Common.{◌≡◌, ℕ, ◌<◌, ◌⊎◌, List, [], ◌∷◌, length, Some, Ok, Err, Result, refl, ap, inl, inr, ⊎_elim, arith}
 use Rattle.std.specs.List.{slice_get}
 use Rattle.std.proofs.lemmas.Bool.{cases_lt, cases_order}
-use Rattle.forms.specs.Places.{Nowhere, NoneBelow, Lowest}
+use Rattle.forms.specs.Places.{Nowhere, Lowest}
 use Rattle.forms.specs.Refusals.{Refusal}
 use Rattle.forms.specs.Refusals.Refusal.{refusal}
 use Rattle.forms.specs.Rows.{NumbersBelow}
@@ -34,16 +34,6 @@ shares_below rows p h =
 
 pub sharing_below : (rows : List Row) (p : ℕ) → SharesLabel rows p → p < length rows
 sharing_below rows p h = offering_below rows p h.one h.first.offered
-
-pub not_outside : (rows : List Row) (p : ℕ) (row : Row) → slice_get rows p ≡ Some row → NumbersBelow (length rows) row → Outside rows p → ⊥
-not_outside rows p row is inside (other, is-other, out) = let same : row ≡ other = cc in out (subst (NumbersBelow (length rows)) same inside)
-
--- one place more that is not of the sort
-pub none_more : (P : ℕ → Type 0) (i : ℕ) → NoneBelow P i → (P i → ⊥) → NoneBelow P (i + 1)
-none_more P i none here j h at = ⊎_elim
-    (λ low. none j low at)
-    (λ up. let same : j ≡ i = omega arith in here (subst P same at))
-    (cases_lt j i)
 
 lowest_one : (P : ℕ → Type 0) (a b : ℕ) → Lowest P a → Lowest P b → a ≡ b
 lowest_one P a b (at_a, none-a) (at_b, none-b) = ⊎_elim (λ e. e) (⊎_elim (λ lt. absurd (none-b a lt at_a)) (λ gt. absurd (none-a b gt at_b))) (cases_order a b)

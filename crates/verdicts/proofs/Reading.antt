@@ -1,13 +1,12 @@
 -- What is read off the sets of a prepared table. Assumes nothing.
-use Rattle.std.proofs.Common.{◌≡◌, ℕ, ◌+◌, ◌<◌, Bool, true, List, Some, None, Decides, sym, ap, ◌∙◌, subst, ⊎_elim, arith}
-use Rattle.std.proofs.lemmas.Bool.{cases_lt}
+use Rattle.std.proofs.Common.{◌≡◌, ℕ, Bool, true, List, Decides, sym, ap, ◌∙◌, subst}
 use Rattle.forms.specs.Buffers.{rows_of}
 use Rattle.forms.specs.Schema.{Offers, Inhabited, IsChannel}
 use Rattle.forms.specs.Schema.Inhabited.{of_channel}
 use Rattle.forms.specs.declared.Row.{Row}
 use Rattle.schema.specs.Rules.{OffersVoid, Relation}
 use Rattle.verdicts.specs.Facts.{ready_of}
-use Rattle.verdicts.specs.Reading.{NextWith, ChannelTaken}
+use Rattle.verdicts.specs.Reading.{ChannelTaken}
 use Rattle.verdicts.specs.Ready.{in_row, IsElement}
 use Rattle.verdicts.specs.Tests.{takes, RowTaken}
 use Rattle.verdicts.specs.RowSets.{row_set}
@@ -17,22 +16,6 @@ use Rattle.verdicts.proofs.Keeping.{void_in, void_out, channel_in, capable_tells
 
 decides_same : {P Q : Type 0} (b : Bool) → (P → Q) → (Q → P) → Decides b P → Decides b Q
 decides_same b there back d = (λ e. there (d.0 e), λ q. d.1 (back q))
-
--- going through the numbers of which W holds: P holds of each one before the place
-module _ (W P : ℕ → Type 0) where
-  abbrev pub Passed : ℕ → Type 0
-  Passed from = (e : ℕ) → e < from → W e → P e
-
-  pub passed_none : Passed 0
-  passed_none e h = absurd (omega arith)
-
-  pub passed_more : (from o : ℕ) → NextWith W from (Some o) → Passed from → P o → Passed (o + 1)
-  passed_more from o (_, _, skip) passed here e h w = ⊎_elim (λ less. passed e less w)
-      (λ ge. ⊎_elim (λ less. absurd (skip e ge less w)) (λ up. subst P (omega arith) here) (cases_lt e o))
-      (cases_lt e from)
-
-  pub passed_all : (from : ℕ) → NextWith W from None → Passed from → (e : ℕ) → W e → P e
-  passed_all from none passed e w = ⊎_elim (λ h. passed e h w) (λ ge. absurd (none e ge w)) (cases_lt e from)
 
 module _ (t : Prepared) where
   abbrev rows : List Row

@@ -1,17 +1,11 @@
--- What a prepared table tells of its rows: the next one of a sort that a row offers, the labels that it gives, and whether a channel is taken. Assumes nothing.
-use Rattle.std.specs.Prelude.{◌≡◌, ℕ, ◌<◌, ◌≤◌, true, List, Some, Option, MatchOption}
+-- What a prepared table tells of its rows: the labels that one gives, and whether a channel is taken. Assumes nothing.
+use Rattle.std.specs.Prelude.{◌≡◌, ℕ, true, List, Some}
 use Rattle.std.specs.List.{slice_get}
 use Rattle.forms.specs.Rows.{belongs}
 use Rattle.forms.specs.declared.Capability.{Capability}
 use Rattle.forms.specs.declared.Row.{Row}
 use Rattle.forms.specs.declared.Row.TheVariants.{Channel}
 use Rattle.schema.specs.Rules.{OffersChannel, OffersElement, ◌⊑◌, Relation, Payloads}
-
--- the lowest number, not before the start, of which P holds, or none if there is none
-abbrev pub NextWith : (ℕ → Type 0) → ℕ → Option ℕ → Type 0
-NextWith P start r =
-    MatchOption r ((j : ℕ) → start ≤ j → P j → ⊥)
-    (λ k. (start ≤ k) × P k × ((j : ℕ) → start ≤ j → j < k → P j → ⊥))
 
 -- if row c is a channel row, q offers a channel row that it is below within R
 abbrev pub ChannelTaken : List Row → Relation → ℕ → ℕ → Type 0
