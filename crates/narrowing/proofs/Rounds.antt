@@ -85,9 +85,6 @@ pub record Narrowing (says : (ℕ → Bool) → ℕ → Bool) (start f : ℕ →
   pub within : Within f start
   pub largest : (h : ℕ → Bool) → Within h start → Stands says h → Within h f
 
-pub narrowing_none : (says : (ℕ → Bool) → ℕ → Bool) (start : ℕ → Bool) → Narrowing says start start
-narrowing_none says start = record { within = λ k e. e; largest = λ h w s. w }
-
 module _ (says : (ℕ → Bool) → ℕ → Bool) (start : ℕ → Bool) (old new : List ℕ) (struck : Bool) (p : Narrowing says start (member old)) (r : Round says old new struck) where
   pub narrowing_more : Narrowing says start (member new)
   narrowing_more = record {

@@ -91,15 +91,6 @@ one_more j i = grind (arith, nat_tests)
 pub firsts_none : (n : ℕ) → word * n ≡ max_rows → Firsts (replicate n 0) 0
 firsts_none n e = record { room = omega (arith, length-replicate {A = ℕ} n 0); is = λ j. zeros_none n j ∙ sym (le-ltb j 0 (omega arith)) }
 
-pub firsts_more : (set new : List ℕ) (i : ℕ) → i < max_rows → Firsts set i → length new ≡ length set →
-    (i < word * length set → i < top → (j : ℕ) → member new j ≡ (eqb j i || member set j)) → Firsts new (i + 1)
-firsts_more set new i h f len put =
-    let room = f.room in
-    record {
-      room = omega arith;
-      is = λ j. put (omega arith) (omega arith) j ∙ ap (λ b. eqb j i || b) (f.is j) ∙ one_more j i;
-    }
-
 -- the rows of a set that are taken from the first ones
 abbrev pub Rest : ℕ → List ℕ → List ℕ → ℕ → Type 0
 Rest n set rest i = (j : ℕ) → member rest j ≡ (ltb j n && not (ltb j i && member set j))

@@ -41,10 +41,6 @@ module _ (rows : List Row) (p o : ℕ) (row : Row) (is : slice_get rows o ≡ So
           let same : row ≡ Element g.labels g.inside g.following = cc in
           subst (λ n. belongs x n ≡ true) (sym (e ∙ ap label_set_of same)) g.has
 
--- a row that is not offered, or not inhabited, gives none
-pub gives_none : (rows : List Row) (p o : ℕ) → ((Offers rows p o × Inhabited rows o) → ⊥) → (x : ℕ) → Decides (belongs x 0) (Gives rows p o x)
-gives_none rows p o no_way x = (λ h. absurd (both_ways (bit 0 x) (bit_zero x) h), λ g. absurd (no_way (g.offered, g.inhabited)))
-
 -- the labels that row p gives by the rows before i, none of them twice
 pub record Seen (rows : List Row) (p seen i : ℕ) : Type 0 where
   pub has : (e x : ℕ) → e < i → Gives rows p e x → belongs x seen ≡ true

@@ -67,10 +67,6 @@ module _ (f : ℕ → Bool) (N : ℕ → ℕ → Type 0) (done : List ℕ) where
   pub noting_all : (old new : List ℕ) (from : ℕ) → Missing f from → Noting old new from → Pended (λ k. (o : ℕ) × (f o ≡ true) × N o k) done old new
   noting_all old new from none noting = pended_same (λ k (o, _, m, named). (o, m, named)) (λ k (o, m, named). (o, walk_end f from none o m, m, named)) noting.noted
 
--- what is named is done or pending already
-pub pended_met : (P : ℕ → Type 0) (done old : List ℕ) → ((k : ℕ) → P k → (member done k ≡ true) ⊎ (member old k ≡ true)) → Pended P done old old
-pended_met P done old there = record { more = λ k m. m; from = λ k m. inl m; has = there }
-
 module _ (rows : List Row) (cells : List ℕ) where
   -- what was noted is noted still when more is pending
   pub noted_more : (met done old new : List ℕ) → ((k : ℕ) → member old k ≡ true → member new k ≡ true) → Noted rows cells met done old → Noted rows cells met done new
