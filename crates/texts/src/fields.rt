@@ -1,5 +1,6 @@
 // The fields of a line: where each ends, and its value.
 ghost use Rattle.std.specs.Prelude.{◌≡◌, ℕ, List};
+ghost use Rattle.std.specs.List.{position};
 ghost use Rattle.texts.specs.RowText.{stops, end_of};
 ghost use Rattle.texts.specs.Reading.{Told, EndFound, FieldRead, OfKind, OfCapability, OfLabels, OfNumber, OfBlank};
 
@@ -51,7 +52,7 @@ impl Value for () {
     ghost spells = { OfBlank };
 
     fn parse(field: &[u8]) -> Option<()> {
-        if field.len() == 0 { Some(()) } else { None }
+        field.is_empty().then_some(())
     }
 }
 
@@ -68,33 +69,27 @@ fn end_byte(number: usize) -> u8
     if number == 3 { b'\n' } else { b',' }
 }
 
+// Where the field that the text begins with stops.
+fn first_stop(text: &[u8]) -> Option<usize>
+    ensures { result ≡ position stops text.now }
+{
+    text.iter().position(|byte| is_stop(*byte))
+}
+
 // Where the field that begins at `start` ends, if it ends as this field of a line must.
 fn find_end(text: &[u8], start: usize, number: usize) -> Option<usize>
     ensures { EndFound text.now start number result }
 {
-    let byte = end_byte(number);
-    let mut end = start;
-    while end < text.len() {
-        if text[end] == byte {
-            return Some(end);
-        }
-        if is_stop(text[end]) {
-            return None;
-        }
-        end += 1;
-    }
-    None
+    let length = first_stop(text.get(start..)?)?;
+    let end = start + length;
+    (text[end] == end_byte(number)).then_some(end)
 }
 
 // The value of a field of a line and the place behind its end; the field's number if it is wrong.
 pub(crate) fn read<T: Value>(text: &[u8], start: usize, number: usize) -> Result<(T, usize), usize>
     ensures { FieldRead T.Value.spells text.now start number result }
 {
-    match find_end(text, start, number) {
-        Some(end) => match T::parse(&text[start..end]) {
-            Some(value) => Ok((value, end + 1)),
-            None => Err(number),
-        },
-        None => Err(number),
-    }
+    let end = find_end(text, start, number).ok_or(number)?;
+    let value = T::parse(&text[start..end]).ok_or(number)?;
+    Ok((value, end + 1))
 }
