@@ -5,7 +5,7 @@ use Rattle.std.specs.List.{AllByRecursion}
 use Rattle.std.specs.Option.{MatchOption}
 use Rattle.std.proofs.lemmas.Bool.{cases_lt, lt-ltb, le-ltb}
 use Rattle.std.proofs.lemmas.Fmt.{decimal_digit, decimal_step}
-use Rattle.std.proofs.lemmas.List.{take_more, take_all, nil_from_length}
+use Rattle.std.proofs.lemmas.List.{take_more, nil_from_length}
 use Rattle.std.proofs.ByRecursion.{All-get_or}
 use Rattle.forms.specs.Limits.{max_rows}
 use Rattle.texts.specs.Limits.{label_digits}
@@ -96,12 +96,6 @@ so_far_more f i v d l going h e = record {
 
 pub so_far_fits : (f : List ℕ) (i v d : ℕ) → length f ≡ label_digits → i < length f → ReadSoFar f i v → d < 16 → v * 16 + d < 2 ^ 64
 so_far_fits f i v d e l going h = omega (arith, going.small, pow-le-pow_right {n = 16} (omega arith) {i = i} {j = 15} (omega arith))
-
-pub so_far_all : (f : List ℕ) (i v : ℕ) → length f ≡ label_digits → i ≡ length f → ReadSoFar f i v → OfLabels f v
-so_far_all f i v e l going =
-    let k : i ≡ label_digits = omega arith in
-    let s : v < 16 ^ label_digits = subst (λ x. v < 16 ^ x) k going.small in
-    (s, sym (take_all i f (omega arith)) ∙ (going.digits ∙ ap (λ x. hexadecimal x v) k))
 
 pub labels_long : (f : List ℕ) (v : ℕ) → OfLabels f v → length f ≡ label_digits
 labels_long f v (h, e) = ap length e ∙ length_hexadecimal label_digits v

@@ -1,14 +1,13 @@
 -- Where a field ends.
-use Rattle.std.proofs.Common.{◌≡◌, ℕ, zero, suc, ◌+◌, ◌<◌, true, false, eqb, List, [], ◌∷◌, length, get_or, take, drop, Some, None, refl, ap, ◌∙◌, ap₂, arith}
+use Rattle.std.proofs.Common.{◌≡◌, ℕ, zero, suc, ◌+◌, ◌-◌, ◌<◌, true, false, List, [], ◌∷◌, length, get_or, take, drop, Some, None, Err, sym, refl, ap, subst, add-one, arith}
 use Rattle.std.specs.List.{position}
-use Rattle.std.specs.Bool.{then_some}
-use Rattle.std.proofs.lemmas.Bool.{eqb-true}
 use Rattle.std.proofs.lemmas.Bool.Decides.{nat_tests}
 use Rattle.std.proofs.lemmas.List.Sums.{fails_before_first}
-use Rattle.std.proofs.lemmas.List.{get_or-drop, length-drop, drop-drop}
+use Rattle.std.proofs.lemmas.List.{length-drop}
 use Rattle.std.proofs.lemmas.List.Quantifiers.{position-Some}
 use Rattle.texts.specs.RowText.{stops, field, from_stop, end_of}
-use Rattle.texts.specs.Reading.{EndFound}
+use Rattle.texts.specs.Reading.{FieldRead}
+use Rattle.std.proofs.lemmas.List.{take_all, length-drop}
 use Rattle.forms.proofs.Findings.{never}
 
 -- the first stop is the byte i
@@ -24,25 +23,30 @@ stop_never [] none = refl
 stop_never (b ∷ f) none = let e = none 0 (omega arith) in rw e (stop_never f (λ k h. none (suc k) (omega arith)))
 
 -- a field without a stop has no end
-pub no_end : (bytes : List ℕ) (start f : ℕ) → position stops (drop start bytes) ≡ None → EndFound bytes start f None
-no_end bytes start f e =
-    let none : from_stop (drop start bytes) ≡ [] = stop_never (drop start bytes) (λ k h. grind (arith, nat_tests, fails_before_first)) in
-    λ rest e'. never (cc)
+pub no_end : (f : List ℕ) → position stops f ≡ None → from_stop f ≡ []
+no_end f e = stop_never f (λ k h. grind (arith, nat_tests, fails_before_first))
 
--- the first stop ends a field, if it is the right one
-pub end_told : (bytes : List ℕ) (start f i : ℕ) → position stops (drop start bytes) ≡ Some i → EndFound bytes start f (then_some (eqb (get_or bytes (start + i) 0) (end_of f)) (start + i))
-end_told bytes start f i e =
-    let (l, s, none) = position-Some stops (drop start bytes) i 0 e in
-    let (front, rest) = stop_at (drop start bytes) i l s none in
-    let byte : get_or (drop start bytes) i 0 ≡ get_or bytes (start + i) 0 = get_or-drop start bytes i 0 in
-    let behind : drop (suc i) (drop start bytes) ≡ drop (start + i + 1) bytes = drop-drop (suc i) start bytes ∙ ap (λ k. drop k bytes) (omega arith) in
-    let here : from_stop (drop start bytes) ≡ get_or bytes (start + i) 0 ∷ drop (start + i + 1) bytes = rest ∙ ap₂ (λ b t. b ∷ t) byte behind in
-    elim (eqb (get_or bytes (start + i) 0) (end_of f)) as (λ t. eqb (get_or bytes (start + i) 0) (end_of f) ≡ t → EndFound bytes start f (then_some t (start + i))) [
-      | true ↦ λ q. record {
-        from = omega arith;
-        within = omega (arith, length-drop start bytes);
-        holds = front ∙ ap (λ k. take k (drop start bytes)) (omega arith);
-        rest = here ∙ ap (λ b. b ∷ drop (start + i + 1) bytes) (eqb-true (get_or bytes (start + i) 0) (end_of f) q);
-      }
-      | false ↦ λ q rest' e'. let same : get_or bytes (start + i) 0 ≡ end_of f = cc in grind (arith, nat_tests)
-    ] refl
+-- the first stop is where a field ends
+pub end_at : (f : List ℕ) (i : ℕ) → position stops f ≡ Some i → (i < length f) × (field f ≡ take i f) × (from_stop f ≡ get_or f i 0 ∷ drop (i + 1) f)
+end_at f i e =
+    let (l, s, none) = position-Some stops f i 0 e in
+    let (front, rest) = stop_at f i l s none in
+    (l, front, rw add-one rest)
+
+-- WHAT A FIELD SAYS
+module _ {V : Type 0} (spells : List ℕ → V → Type 0) (bytes : List ℕ) (f : ℕ) where
+  pub no_field : position stops bytes ≡ None → (e : ℕ) → e ≡ f → FieldRead spells bytes f (Err e)
+  no_field none e is = (is, λ v rest s stop. let z = no_end bytes none in never (cc))
+
+  module _ (i : ℕ) (at : position stops bytes ≡ Some i) where
+    pub other_end : (get_or bytes i 0 ≡ end_of f → ⊥) → FieldRead spells bytes f (Err f)
+    other_end other = let (l, front, rest) = end_at bytes i at in (refl, λ v rest' s stop. other (cc))
+
+    pub no_value : ((v : V) → spells (take i bytes) v → ⊥) → (e : ℕ) → e ≡ f → FieldRead spells bytes f (Err e)
+    no_value none e is = let (l, front, rest) = end_at bytes i at in (is, λ v rest' s stop. none v (subst (λ t. spells t v) front s))
+
+    pub value_read : get_or bytes i 0 ≡ end_of f → (v : V) → spells (take i bytes) v → spells (field bytes) v × (from_stop bytes ≡ end_of f ∷ take (length bytes - (i + 1)) (drop (i + 1) bytes))
+    value_read right v s =
+        let (l, front, rest) = end_at bytes i at in
+        let all : take (length bytes - (i + 1)) (drop (i + 1) bytes) ≡ drop (i + 1) bytes = take_all (length bytes - (i + 1)) (drop (i + 1) bytes) (omega (arith, length-drop (i + 1) bytes)) in
+        (subst (λ t. spells t v) (sym front) s, cc)

@@ -2,7 +2,7 @@
 ghost use Rattle.std.specs.Prelude.{◌≡◌, ℕ, List};
 ghost use Rattle.std.specs.List.{position};
 ghost use Rattle.texts.specs.RowText.{stops, end_of};
-ghost use Rattle.texts.specs.Reading.{Told, EndFound, FieldRead, OfKind, OfCapability, OfLabels, OfNumber, OfBlank};
+ghost use Rattle.texts.specs.Reading.{Told, FieldRead, OfKind, OfCapability, OfLabels, OfNumber, OfBlank};
 
 use super::kinds::Kind;
 use super::values;
@@ -69,27 +69,21 @@ fn end_byte(number: usize) -> u8
     if number == 3 { b'\n' } else { b',' }
 }
 
-// Where the field that the text begins with stops.
-fn first_stop(text: &[u8]) -> Option<usize>
+// How long the field is that the text begins with.
+fn length(text: &[u8]) -> Option<usize>
     ensures { result ≡ position stops text.now }
 {
     text.iter().position(|byte| is_stop(*byte))
 }
 
-// Where the field that begins at `start` ends, if it ends as this field of a line must.
-fn find_end(text: &[u8], start: usize, number: usize) -> Option<usize>
-    ensures { EndFound text.now start number result }
+// The value of the field that the text begins with, and the text behind its end, which is that of this field of a line; the field's number if it is wrong.
+pub(crate) fn read<T: Value>(text: &[u8], number: usize) -> Result<(T, &[u8]), usize>
+    ensures { FieldRead T.Value.spells text.now number result }
 {
-    let length = first_stop(text.get(start..)?)?;
-    let end = start + length;
-    (text[end] == end_byte(number)).then_some(end)
-}
-
-// The value of a field of a line and the place behind its end; the field's number if it is wrong.
-pub(crate) fn read<T: Value>(text: &[u8], start: usize, number: usize) -> Result<(T, usize), usize>
-    ensures { FieldRead T.Value.spells text.now start number result }
-{
-    let end = find_end(text, start, number).ok_or(number)?;
-    let value = T::parse(&text[start..end]).ok_or(number)?;
-    Ok((value, end + 1))
+    let end = length(text).ok_or(number)?;
+    if text[end] != end_byte(number) {
+        return Err(number);
+    }
+    let value = T::parse(&text[..end]).ok_or(number)?;
+    Ok((value, &text[end + 1..]))
 }
