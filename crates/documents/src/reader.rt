@@ -9,7 +9,7 @@ ghost use Rattle.documents.specs.Reading.{ReadingIsOne, ReadIsSpelled};
 
 use super::faults::ReadFault;
 use super::nodes::{MAX_DOCUMENT, MAX_NODES, Node};
-use super::scan::{Judgement, judge};
+use super::scan::judge;
 
 // Where reading goes on, how many nodes are used, and the number of the last one.
 #[derive(Clone, Copy)]
@@ -186,6 +186,7 @@ fn too_many(count: usize, buffer: usize) -> bool
 
 // Reads a text into the front of a buffer of nodes, and answers how many they are. Node 0 is void; an element's inside nodes come
 // first, then its following nodes, then its own; the last is the root.
+#[tactic(auto, using(crate::proofs::Reading::reading_is_one, crate::proofs::Levels::read_is_spelled, crate::proofs::Texts::texts_are_unambiguous))]
 pub fn read_document(text: &[u8], nodes: &mut [Node]) -> Result<usize, ReadFault>
     ensures read { ReadInto text.now nodes.old nodes.new result }
     ensures back { WritesBack text.now nodes.new result }
@@ -197,15 +198,10 @@ pub fn read_document(text: &[u8], nodes: &mut [Node]) -> Result<usize, ReadFault
     if text.len() > MAX_DOCUMENT {
         return Err(ReadFault::TooLong);
     }
-    match judge(text) {
-        Judgement::Wrong(place) => Err(ReadFault::Wrong { place }),
-        Judgement::Deep(place) => Err(ReadFault::TooDeep { place }),
-        Judgement::Text(count) => {
-            if too_many(count, nodes.len()) {
-                return Err(ReadFault::TooManyNodes);
-            }
-            build(text, nodes);
-            Ok(count)
-        }
+    let count = judge(text)?;
+    if too_many(count, nodes.len()) {
+        return Err(ReadFault::TooManyNodes);
     }
+    build(text, nodes);
+    Ok(count)
 }
