@@ -10,6 +10,7 @@ ghost use Rattle.documents.specs.Reading.{ReadingIsOne, ReadIsSpelled};
 use super::faults::ReadFault;
 use super::nodes::{MAX_DOCUMENT, MAX_NODES, Node};
 use super::scan::judge;
+use forms::bytes::digit;
 
 // Where reading goes on, how many nodes are used, and the number of the last one.
 #[derive(Clone, Copy)]
@@ -23,7 +24,7 @@ pub struct Reached {
 fn byte_at(text: &[u8], place: usize) -> u8
     ensures { result ≡ slice_index text.now place }
 {
-    if place < text.len() { text[place] } else { 0 }
+    text.get(place).copied().unwrap_or(0)
 }
 
 // The place behind a byte, but not behind the end.
@@ -39,11 +40,7 @@ fn skip(text: &[u8], place: usize) -> usize
 fn digit_at(text: &[u8], place: usize) -> Option<u8>
     ensures { MatchOption result (place < length text.now → 48 ≤ slice_index text.now place → slice_index text.now place ≤ 57 → ⊥) (λ d. (place < length text.now) × (slice_index text.now place ≡ 48 + d) × (d < 10)) }
 {
-    if place < text.len() && text[place] >= b'0' && text[place] <= b'9' {
-        Some(text[place] - b'0')
-    } else {
-        None
-    }
+    digit(*text.get(place)?)
 }
 
 // The number at a place, of one digit or two, and the place behind it.
@@ -62,6 +59,7 @@ fn number(text: &[u8], place: usize) -> (u8, usize)
 }
 
 // Writes a node, where there is room.
+// As it is: tried with `get_mut` and a write through what it lends, and the proof did not close.
 fn put(nodes: &mut [Node], used: usize, node: Node)
     ensures { nodes.new ≡ slice_set nodes.old used node }
 {
@@ -172,7 +170,7 @@ fn build(text: &[u8], nodes: &mut [Node])
     ensures { BuildsText text.now nodes.old nodes.new }
 {
     put(nodes, 0, Node::Void);
-    if text.len() > 0 {
+    if !text.is_empty() {
         let _ = list(text, 0, nodes, 1);
     }
 }
