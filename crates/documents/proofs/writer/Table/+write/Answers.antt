@@ -3,7 +3,7 @@ use Rattle.forms.specs.Splices.{Wrote}
 use Rattle.forms.proofs.Splices.{wrote_none, wrote_both}
 use Rattle.documents.specs.Grammar.{spelled_document}
 use Rattle.documents.proofs.Shapes.{wrote_single, wrote_chain}
-use Rattle.documents.proofs.writer.+write.Goals as goal
+use Rattle.documents.proofs.writer.Table.+write.Goals as goal
 
 pub returns-in-Empty : goal.returns-in-Empty
 returns-in-Empty t c = λ x h.

@@ -1,5 +1,5 @@
 use Rattle.documents.proofs.Shapes.{single_some, single_none, chain_some, chain_none_inside, chain_none}
-use Rattle.documents.proofs.writer.+measure.Goals as goal
+use Rattle.documents.proofs.writer.Table.+measure.Goals as goal
 
 pub returns-in_ok-left-in-Single : goal.returns-in_ok-left-in-Single
 returns-in_ok-left-in-Single t c = λ x h.
