@@ -28,6 +28,7 @@ fn byte_at(text: &[u8], place: usize) -> u8
 }
 
 // The place behind a byte, but not behind the end.
+// As it is: as a `min` with the length it would need a sum that is known to fit.
 fn skip(text: &[u8], place: usize) -> usize
     requires { place ≤ length text.now }
     ensures on { place < length text.now → result ≡ place + 1 }
@@ -91,6 +92,7 @@ fn close(nodes: &mut [Node], label: u8, inside: u16, rest: Reached) -> Reached
 }
 
 // A list: a reference, or an element, or an element, a comma and a list.
+// As it is: a struct of text, place, nodes and count would hold a `&mut`, and each contract would say too that it stays the same one.
 #[cycle(item_list)]
 fn list(text: &[u8], place: usize, nodes: &mut [Node], used: usize) -> Reached
     requires { Ready text.now place used }

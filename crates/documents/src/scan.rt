@@ -30,10 +30,10 @@ pub enum Phase {
 fn ends(phase: Phase) -> bool
     ensures { result ≡ may_end phase }
 {
-    match phase {
-        Phase::MayBegin | Phase::InRow(_) | Phase::AfterElement => true,
-        Phase::MustBegin | Phase::InLabel(_) | Phase::AfterAt => false,
-    }
+    matches!(
+        phase,
+        Phase::MayBegin | Phase::InRow(_) | Phase::AfterElement
+    )
 }
 
 // The number that a digit makes behind another one, if it stays below the limit and has no leading zero.

@@ -117,6 +117,7 @@ impl<'a> Table<'a> {
     }
 
     // Writes the text of node k from a place on, where there is room, and answers the place behind it. Shared nodes are written again.
+    // As it is: the buffer and the place go in and out as in `forms::bytes`; a writer would add a clause to the contract.
     fn write(&self, k: u16, out: &mut [u8], place: usize) -> usize
         requires { k < length self.now.nodes.now }
         ensures { (x : Document) → StandsFor self.now.nodes.now k x → Wrote out.old out.new place (spelled_document x) result }

@@ -3,6 +3,7 @@ ghost use Rattle.std.specs.Prelude.{◌≡◌, ℕ, ◌+◌, ◌<◌, ◌≤◌,
 ghost use Rattle.forms.specs.Splices.{Wrote, Puts};
 
 // Writes a byte and answers the place behind it; no change, and the place itself, where there is no room.
+// As it is: a writer that holds the slice was tried; each contract then needs a clause more, that it still holds the same slice.
 pub fn put(out: &mut [u8], place: usize, byte: u8) -> usize
     ensures { Puts out.old out.new place (byte ∷ []) result }
 {

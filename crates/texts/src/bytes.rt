@@ -20,6 +20,7 @@ fn hex_digit(value: u8) -> u8
     }
 }
 
+// As it is: the buffer and the place go in and out as in `forms::bytes`; a writer would add a clause to each contract here.
 fn put_labels(out: &mut [u8], place: usize, labels: u64) -> usize
     ensures { Wrote out.old out.new place (hexadecimal label_digits labels) result }
 {
