@@ -1,7 +1,6 @@
 -- Numbers, elements and lists of a right text, as the reader meets them. Assumes nothing.
 use Rattle.std.proofs.Common.{◌≡◌, ℕ, ◌+◌, ◌*◌, ◌<◌, ◌≤◌, ◌⊎◌, List, [], ◌∷◌, ◌++◌, length, get_or, drop, set, decimal, sym, refl, ap, ◌∙◌, subst, inl, inr, ⊎_elim, zero-add, arith, length-append, length-drop}
 use Rattle.std.proofs.lemmas.List.{drop-drop, drop_at, get_or-drop, get_or_past, append_assoc, append-nil}
-use Rattle.std.proofs.lemmas.Bool.{cases_lt}
 use Rattle.forms.specs.Limits.{max_rows}
 use Rattle.forms.specs.Documents.{Document}
 use Rattle.forms.specs.Documents.Document.{void, reference, element}
@@ -13,6 +12,8 @@ use Rattle.documents.specs.declared.reader.Reached.{Reached}
 use Rattle.documents.specs.Grammar.{comma_before, spelled_document, Small}
 use Rattle.documents.specs.Nodes.{size, root, nodes_from, nodes_for}
 use Rattle.documents.specs.Built.{NoDigit, Closing, Built, ReadsNumber, BuildsList, BuildsItem, BuildsText}
+use Rattle.std.specs.Option.{MatchOption}
+use Rattle.std.proofs.Common.{Some, None, Option, ◌-◌}
 use Rattle.forms.proofs.Findings.{never}
 use Rattle.documents.proofs.Tables.{length_nodes}
 use Rattle.documents.proofs.Texts.{closing_no_digit, element_bytes}
@@ -27,9 +28,11 @@ front t p {b} {rest} e = (
   sym (drop-drop 1 p t) ∙ ap (drop 1) e,
 )
 
--- a byte that is not 0 stands before the end
-pub byte_within : (t : List ℕ) (p b : ℕ) → get_or t p 0 ≡ b → 0 < b → p < length t
-byte_within t p b e some = ⊎_elim (λ lt. lt) (λ le. let z = get_or_past t p 0 le in absurd (omega arith)) (cases_lt p (length t))
+-- the digit at a place, by its byte
+pub digit_there : (text : List ℕ) (place : ℕ) (r : Option ℕ) → place < length text → MatchOption r ((d : ℕ) → (d < 10) × (get_or text place 0 ≡ 48 + d) → ⊥) (λ d. (d < 10) × (get_or text place 0 ≡ 48 + d)) →
+    MatchOption r (place < length text → 48 ≤ get_or text place 0 → get_or text place 0 ≤ 57 → ⊥) (λ d. (place < length text) × (get_or text place 0 ≡ 48 + d) × (d < 10))
+digit_there text place None lt none = λ _ low high. none (get_or text place 0 - 48) (omega arith, omega arith)
+digit_there text place (Some d) lt (small, is) = (lt, is, small)
 
 -- and what stands behind a front
 pub behind : (t : List ℕ) (p : ℕ) (s : List ℕ) {rest : List ℕ} → drop p t ≡ s ++ rest → drop (p + length s) t ≡ rest
@@ -194,9 +197,6 @@ module _ (t : List ℕ) (p used label : ℕ) (before m₁ m₂ after : List Node
       (comma_or_void b)
 
 -- THE ITEM FUNCTION
-pub past_label : (len p end start : ℕ) → p < len → p ≤ end → end ≤ start → (end < len → start ≡ end + 1) → p < start
-past_label len p end start some on le opens = ⊎_elim (λ lt. omega (arith, opens lt)) (λ ge. omega arith) (cases_lt end len)
-
 module _ (t : List ℕ) (p label end start : ℕ) (reads : ReadsNumber t p (label, end)) (opens : end < length t → start ≡ end + 1) where
   -- after the label and the opening bracket
   opened : (x : ℕ) (rest : List ℕ) → x < max_rows → drop p t ≡ decimal x ++ (91 ∷ rest) → (label ≡ x) × (start ≡ p + length (decimal x) + 1) × (drop start t ≡ rest)

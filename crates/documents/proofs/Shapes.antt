@@ -1,5 +1,5 @@
 -- Documents by the nodes that stand for them, and their texts by parts. Assumes nothing.
-use Rattle.std.proofs.Common.{◌≡◌, ℕ, ◌+◌, ◌-◌, ◌<◌, ◌≤◌, leb, List, [], ◌∷◌, ◌++◌, length, get_or, Some, None, decimal, Option, sym, refl, ap, ◌∙◌, subst, ⊎_elim, arith, length-append}
+use Rattle.std.proofs.Common.{◌≡◌, ℕ, ◌-◌, ◌<◌, ◌≤◌, leb, List, [], ◌∷◌, ◌++◌, length, get_or, Some, None, decimal, sym, refl, ap, ◌∙◌, subst, ⊎_elim, arith}
 use Rattle.std.specs.List.{slice_get}
 use Rattle.std.proofs.lemmas.Option.{slice_get-get_or}
 use Rattle.std.proofs.lemmas.Bool.{cases_lt, cond-true, cond-false, le-leb, lt-leb}
@@ -103,51 +103,6 @@ room_for room n left e = ⊎_elim
 
 pub no_room : (room n : ℕ) → None ≡ rest room n → room < n
 no_room room n e = ⊎_elim (λ lt. lt) (λ le. let w : None ≡ Some (room - n) = e ∙ rest_some room n le in never (cc)) (cases_lt room n)
-
--- one part, and then another
-pub rest_more : (room m n left : ℕ) (out : Option ℕ) → Some left ≡ rest room m → out ≡ rest left n → out ≡ rest room (m + n)
-rest_more room m n left out first second =
-    let (le, is) = room_for room m left first in
-    ⊎_elim
-    (λ lt. second ∙ rest_none left n lt ∙ sym (rest_none room (m + n) (omega arith)))
-    (λ ge. second ∙ rest_some left n ge ∙ ap Some (omega arith) ∙ sym (rest_some room (m + n) (omega arith)))
-    (cases_lt left n)
-
-pub rest_stuck : (room m n : ℕ) → None ≡ rest room m → None ≡ rest room (m + n)
-rest_stuck room m n e = sym (rest_none room (m + n) (omega (arith, no_room room m e)))
-
-single_length : (l : ℕ) (a : Document) → length (spelled_document (element l a void)) ≡ (2 + length (decimal l)) + length (spelled_document a)
-single_length l a = simp length-append (omega arith)
-
-chain_length : (l : ℕ) (a b : Document) → comma_before b ≡ 44 ∷ [] → length (spelled_document (element l a b)) ≡ (3 + length (decimal l)) + (length (spelled_document a) + length (spelled_document b))
-chain_length l a b e = let c = ap length e in simp length-append (omega arith)
-
--- r digits of a label and two brackets, and then the inside
-module _ (room l r : ℕ) (a x : Document) (figures-are : r ≡ length (decimal l)) (is : x ≡ element l a void) where
-  single : length (spelled_document x) ≡ (2 + r) + length (spelled_document a)
-  single = ap (λ d. length (spelled_document d)) is ∙ single_length l a ∙ ap (λ k. (2 + k) + length (spelled_document a)) (sym figures-are)
-
-  pub single_some : (left : ℕ) (out : Option ℕ) → Some left ≡ rest room (2 + r) → out ≡ rest left (length (spelled_document a)) → out ≡ rest room (length (spelled_document x))
-  single_some left out first second = rest_more room (2 + r) (length (spelled_document a)) left out first second ∙ ap (rest room) (sym single)
-
-  pub single_none : None ≡ rest room (2 + r) → None ≡ rest room (length (spelled_document x))
-  single_none e = rest_stuck room (2 + r) (length (spelled_document a)) e ∙ ap (rest room) (sym single)
-
--- the same with a comma, and what follows
-module _ (room l r : ℕ) (a b x : Document) (figures-are : r ≡ length (decimal l)) (is : x ≡ element l a b) (comma : comma_before b ≡ 44 ∷ []) where
-  chain : length (spelled_document x) ≡ (3 + r) + (length (spelled_document a) + length (spelled_document b))
-  chain = ap (λ d. length (spelled_document d)) is ∙ chain_length l a b comma ∙ ap (λ k. (3 + k) + (length (spelled_document a) + length (spelled_document b))) (sym figures-are)
-
-  pub chain_some : (left more : ℕ) (out : Option ℕ) → Some left ≡ rest room (3 + r) → Some more ≡ rest left (length (spelled_document a)) → out ≡ rest more (length (spelled_document b)) → out ≡ rest room (length (spelled_document x))
-  chain_some left more out first second third =
-      rest_more room (3 + r) (length (spelled_document a) + length (spelled_document b)) left out first (rest_more left (length (spelled_document a)) (length (spelled_document b)) more out second third) ∙ ap (rest room) (sym chain)
-
-  pub chain_none_inside : (left : ℕ) → Some left ≡ rest room (3 + r) → None ≡ rest left (length (spelled_document a)) → None ≡ rest room (length (spelled_document x))
-  chain_none_inside left first e =
-      rest_more room (3 + r) (length (spelled_document a) + length (spelled_document b)) left None first (rest_stuck left (length (spelled_document a)) (length (spelled_document b)) e) ∙ ap (rest room) (sym chain)
-
-  pub chain_none : None ≡ rest room (3 + r) → None ≡ rest room (length (spelled_document x))
-  chain_none e = rest_stuck room (3 + r) (length (spelled_document a) + length (spelled_document b)) e ∙ ap (rest room) (sym chain)
 
 -- WRITING, part by part
 module _ (l : ℕ) (a : Document) (o o₁ o₂ o₃ o₄ : List ℕ) (p p₁ p₂ p₃ p₄ : ℕ)

@@ -9,3 +9,4 @@ pub mod Built
 pub mod Faults
 pub mod Answers
 pub mod Spelling
+pub mod Facts

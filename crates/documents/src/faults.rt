@@ -1,7 +1,10 @@
 // Why a document is not read or not written.
 ghost use Rattle.documents.specs.Faults.{read_refusal, write_refusal};
 
+use super::nodes::MAX_NODES;
 use forms::refusals::Refused;
+use std::error::Error;
+use std::fmt;
 
 // Why a text is not read. A place is the number of a byte, from 0, or the text's length where it ends too early.
 #[derive(Clone, Copy, PartialEq, Eq, Debug)]
@@ -54,3 +57,48 @@ impl Refused for WriteFault {
         }
     }
 }
+
+impl fmt::Display for ReadFault {
+    fn fmt<W: fmt::Write>(&self, f: &mut fmt::Formatter<W>) -> fmt::Result {
+        let number = self.number();
+        match self {
+            ReadFault::TooLong => write!(
+                f,
+                "this is no order ({number}): it has more than 32,768 bytes"
+            ),
+            ReadFault::Wrong { place } => write!(
+                f,
+                "this is no order ({number}): at place {place} no order goes on so"
+            ),
+            ReadFault::TooDeep { place } => write!(
+                f,
+                "this order is too deep ({number}): the bracket at place {place} opens a 65th level"
+            ),
+            ReadFault::TooManyNodes => write!(
+                f,
+                "this order is too large ({number}): it takes more than {MAX_NODES} nodes"
+            ),
+        }
+    }
+}
+
+impl Error for ReadFault {}
+
+impl fmt::Display for WriteFault {
+    fn fmt<W: fmt::Write>(&self, f: &mut fmt::Formatter<W>) -> fmt::Result {
+        write!(f, "the order cannot be written ({}): ", self.number())?;
+        match self {
+            WriteFault::ManyNodes => write!(f, "there are more than {MAX_NODES} nodes"),
+            WriteFault::Unsound { node } => write!(
+                f,
+                "node {node} is not sound: an element has a label up to 63 and points at two lower nodes, and a reference is to a row up to 63"
+            ),
+            WriteFault::RootOutside => f.write_str("the root is not one of the nodes"),
+            WriteFault::TooLong => f.write_str(
+                "the text is longer than the buffer, or than 32,768 bytes",
+            ),
+        }
+    }
+}
+
+impl Error for WriteFault {}

@@ -1,9 +1,11 @@
 // Writing the document of a node as text.
-ghost use Rattle.std.specs.Prelude.{◌≡◌, ◌<◌, length, Decides, MatchOption};
+ghost use Rattle.std.specs.Prelude.{◌≡◌, ℕ, ◌<◌, length, Decides, MatchOption, MatchResult};
 ghost use Rattle.forms.specs.Places.{Lowest};
 ghost use Rattle.forms.specs.Splices.{Wrote};
 ghost use Rattle.forms.specs.Documents.{Document};
+ghost use Rattle.documents.specs.declared.faults.WriteFault.TheVariants.{Unsound as unsound_node};
 ghost use Rattle.documents.specs.Grammar.{spelled_document};
+ghost use Rattle.documents.specs.Facts.{sound_is_fact};
 ghost use Rattle.documents.specs.Nodes.{SoundAt, Sound, StandsFor};
 ghost use Rattle.documents.specs.Spelling.{rest, Shaped};
 ghost use Rattle.documents.specs.Answers.{WrittenInto, ReadsBack};
@@ -42,89 +44,104 @@ fn sound(k: usize, node: Node) -> bool
 fn unsound(nodes: &[Node]) -> Option<usize>
     ensures { MatchOption result (Sound nodes.now) (λ k. Lowest (Unsound nodes.now) k) }
 {
-    for k in 0..nodes.len() {
-        if !sound(k, nodes[k]) {
+    for (k, node) in nodes.iter().enumerate() {
+        if !sound(k, *node) {
             return Some(k);
         }
     }
     None
 }
 
-fn look(nodes: &[Node], k: u16) -> Shape
-    requires sound { Sound nodes.now }
-    requires within { k < length nodes.now }
-    ensures { Shaped nodes.now k result }
-{
-    match nodes[k as usize] {
-        Node::Void => Shape::Empty,
-        Node::Reference(row) => Shape::Address(row),
-        Node::Element {
-            label,
-            inside,
-            following,
-        } => match nodes[following as usize] {
-            Node::Void => Shape::Single(label, inside),
-            Node::Reference(_) => Shape::Chain(label, inside, following),
-            Node::Element { .. } => Shape::Chain(label, inside, following),
-        },
-    }
-}
-
 // The room that is left after n bytes.
 fn spend(room: usize, n: usize) -> Option<usize>
     ensures { result ≡ rest room n }
 {
-    if n <= room { Some(room - n) } else { None }
+    room.checked_sub(n)
 }
 
-// The room left after the text of node k, or none if it is longer. It stops once the room is spent, however long the text is.
-fn measure(nodes: &[Node], k: u16, room: usize) -> Option<usize>
-    requires sound { Sound nodes.now }
-    requires within { k < length nodes.now }
-    ensures { (x : Document) → StandsFor nodes.now k x → result ≡ rest room (length (spelled_document x)) }
-{
-    match look(nodes, k) {
-        Shape::Empty => Some(room),
-        Shape::Address(row) => spend(room, 1 + digits(row)),
-        Shape::Single(label, inside) => match spend(room, 2 + digits(label)) {
-            Some(left) => measure(nodes, inside, left),
-            None => None,
-        },
-        Shape::Chain(label, inside, following) => match spend(room, 3 + digits(label)) {
-            Some(left) => match measure(nodes, inside, left) {
-                Some(more) => measure(nodes, following, more),
-                None => None,
-            },
-            None => None,
-        },
+// A sound table.
+#[derive(Clone, Copy)]
+struct Table<'a> {
+    nodes: &'a [Node],
+    ghost sound: { Sound nodes.now } by { sound_is_fact nodes.now },
+}
+
+impl<'a> Table<'a> {
+    // A table of these nodes, or the lowest one that is not sound.
+    fn new(nodes: &'a [Node]) -> Result<Table<'a>, WriteFault>
+        ensures { MatchResult result (λ t. t.nodes.now ≡ nodes.now) (λ e. (k : ℕ) × (e ≡ unsound_node k) × Lowest (Unsound nodes.now) k) }
+    {
+        match unsound(nodes) {
+            Some(node) => Err(WriteFault::Unsound { node }),
+            None => Ok(Table { nodes }),
+        }
     }
-}
 
-// Writes the text of node k from a place on, where there is room, and answers the place behind it. Shared nodes are written again.
-fn write(nodes: &[Node], k: u16, out: &mut [u8], place: usize) -> usize
-    requires sound { Sound nodes.now }
-    requires within { k < length nodes.now }
-    ensures { (x : Document) → StandsFor nodes.now k x → Wrote out.old out.new place (spelled_document x) result }
-{
-    match look(nodes, k) {
-        Shape::Empty => place,
-        Shape::Address(row) => {
-            let at = put(out, place, b'@');
-            put_number(out, at, row)
+    fn look(&self, k: u16) -> Shape
+        requires { k < length self.now.nodes.now }
+        ensures { Shaped self.now.nodes.now k result }
+    {
+        match self.nodes[k as usize] {
+            Node::Void => Shape::Empty,
+            Node::Reference(row) => Shape::Address(row),
+            Node::Element {
+                label,
+                inside,
+                following,
+            } => match self.nodes[following as usize] {
+                Node::Void => Shape::Single(label, inside),
+                Node::Reference(_) => Shape::Chain(label, inside, following),
+                Node::Element { .. } => Shape::Chain(label, inside, following),
+            },
         }
-        Shape::Single(label, inside) => {
-            let opens = put_number(out, place, label);
-            let start = put(out, opens, b'[');
-            let end = write(nodes, inside, out, start);
-            put(out, end, b']')
+    }
+
+    // The room left after the text of node k, or none if it is longer. It stops once the room is spent, however long the text is.
+    fn measure(&self, k: u16, room: usize) -> Option<usize>
+        requires { k < length self.now.nodes.now }
+        ensures { (x : Document) → StandsFor self.now.nodes.now k x → result ≡ rest room (length (spelled_document x)) }
+    {
+        match self.look(k) {
+            Shape::Empty => Some(room),
+            Shape::Address(row) => spend(room, 1 + digits(row)),
+            Shape::Single(label, inside) => {
+                let left = spend(room, 2 + digits(label))?;
+                self.measure(inside, left)
+            }
+            Shape::Chain(label, inside, following) => {
+                let left = spend(room, 3 + digits(label))?;
+                let more = self.measure(inside, left)?;
+                self.measure(following, more)
+            }
         }
-        Shape::Chain(label, inside, following) => {
-            let opens = put_number(out, place, label);
-            let start = put(out, opens, b'[');
-            let end = write(nodes, inside, out, start);
-            let shut = put(out, end, b']');
-            let comma = put(out, shut, b',');
-            write(nodes, following, out, comma)
+    }
+
+    // Writes the text of node k from a place on, where there is room, and answers the place behind it. Shared nodes are written again.
+    // As it is: the buffer and the place go in and out as in `forms::bytes`; a writer would add a clause to the contract.
+    fn write(&self, k: u16, out: &mut [u8], place: usize) -> usize
+        requires { k < length self.now.nodes.now }
+        ensures { (x : Document) → StandsFor self.now.nodes.now k x → Wrote out.old out.new place (spelled_document x) result }
+    {
+        match self.look(k) {
+            Shape::Empty => place,
+            Shape::Address(row) => {
+                let at = put(out, place, b'@');
+                put_number(out, at, row)
+            }
+            Shape::Single(label, inside) => {
+                let opens = put_number(out, place, label);
+                let start = put(out, opens, b'[');
+                let end = self.write(inside, out, start);
+                put(out, end, b']')
+            }
+            Shape::Chain(label, inside, following) => {
+                let opens = put_number(out, place, label);
+                let start = put(out, opens, b'[');
+                let end = self.write(inside, out, start);
+                let shut = put(out, end, b']');
+                let comma = put(out, shut, b',');
+                self.write(following, out, comma)
+            }
         }
     }
 }
@@ -138,14 +155,12 @@ pub fn write_document(nodes: &[Node], root: usize, buffer: &mut [u8]) -> Result<
     if nodes.len() > MAX_NODES {
         return Err(WriteFault::ManyNodes);
     }
-    if let Some(node) = unsound(nodes) {
-        return Err(WriteFault::Unsound { node });
-    }
+    let table = Table::new(nodes)?;
     if root >= nodes.len() {
         return Err(WriteFault::RootOutside);
     }
-    match measure(nodes, root as u16, buffer.len().min(MAX_DOCUMENT)) {
-        Some(_) => Ok(write(nodes, root as u16, buffer, 0)),
-        None => Err(WriteFault::TooLong),
-    }
+    table
+        .measure(root as u16, buffer.len().min(MAX_DOCUMENT))
+        .ok_or(WriteFault::TooLong)?;
+    Ok(table.write(root as u16, buffer, 0))
 }

@@ -152,3 +152,29 @@ fn numbers(rt: HostRuntime) {
     assert_eq!(rt; ReadFault::TooDeep { place: 7 }.number(), 43);
     assert_eq!(rt; ReadFault::TooManyNodes.number(), 44);
 }
+
+#[test]
+fn words(rt: HostRuntime) -> Result<(), Fail> {
+    let alloc = rt.alloc();
+    let long = format!(in alloc; "{}", ReadFault::TooLong)?;
+    assert_eq!(rt;
+        long.as_str(),
+        "this is no order (40): it has more than 32,768 bytes"
+    );
+    let wrong = format!(in alloc; "{}", ReadFault::Wrong { place: 7 })?;
+    assert_eq!(rt;
+        wrong.as_str(),
+        "this is no order (41): at place 7 no order goes on so"
+    );
+    let deep = format!(in alloc; "{}", ReadFault::TooDeep { place: 7 })?;
+    assert_eq!(rt;
+        deep.as_str(),
+        "this order is too deep (43): the bracket at place 7 opens a 65th level"
+    );
+    let large = format!(in alloc; "{}", ReadFault::TooManyNodes)?;
+    assert_eq!(rt;
+        large.as_str(),
+        "this order is too large (44): it takes more than 4160 nodes"
+    );
+    Ok(())
+}

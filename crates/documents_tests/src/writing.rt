@@ -175,3 +175,19 @@ fn numbers(rt: HostRuntime) {
     assert_eq!(rt; WriteFault::RootOutside.number(), 32);
     assert_eq!(rt; WriteFault::TooLong.number(), 45);
 }
+
+#[test]
+fn words(rt: HostRuntime) -> Result<(), Fail> {
+    let alloc = rt.alloc();
+    let many = format!(in alloc; "{}", WriteFault::ManyNodes)?;
+    assert_eq!(rt;
+        many.as_str(),
+        "the order cannot be written (30): there are more than 4160 nodes"
+    );
+    let outside = format!(in alloc; "{}", WriteFault::RootOutside)?;
+    assert_eq!(rt;
+        outside.as_str(),
+        "the order cannot be written (32): the root is not one of the nodes"
+    );
+    Ok(())
+}

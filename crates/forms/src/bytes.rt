@@ -1,8 +1,9 @@
 // Bytes and numbers as text, put into a buffer one after another.
-ghost use Rattle.std.specs.Prelude.{◌≡◌, ◌≤◌, [], ◌∷◌, length, decimal};
+ghost use Rattle.std.specs.Prelude.{◌≡◌, ℕ, ◌+◌, ◌<◌, ◌≤◌, [], ◌∷◌, length, decimal, MatchOption};
 ghost use Rattle.forms.specs.Splices.{Wrote, Puts};
 
 // Writes a byte and answers the place behind it; no change, and the place itself, where there is no room.
+// As it is: a writer that holds the slice was tried; each contract then needs a clause more, that it still holds the same slice.
 pub fn put(out: &mut [u8], place: usize, byte: u8) -> usize
     ensures { Puts out.old out.new place (byte ∷ []) result }
 {
@@ -11,6 +12,16 @@ pub fn put(out: &mut [u8], place: usize, byte: u8) -> usize
     }
     out[place] = byte;
     place + 1
+}
+
+// The number that a digit stands for.
+pub fn digit(byte: u8) -> Option<u8>
+    ensures { MatchOption result ((d : ℕ) → (d < 10) × (byte ≡ 48 + d) → ⊥) (λ d. (d < 10) × (byte ≡ 48 + d)) }
+{
+    match byte {
+        b'0'..=b'9' => Some(byte - b'0'),
+        _ => None,
+    }
 }
 
 // How many digits a number has.

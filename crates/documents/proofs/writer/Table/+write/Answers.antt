@@ -1,14 +1,9 @@
 use Rattle.std.proofs.Common.{[], ◌∷◌, decimal, sym, subst}
 use Rattle.forms.specs.Splices.{Wrote}
-use Rattle.forms.proofs.Splices.{wrote_none, wrote_both}
+use Rattle.forms.proofs.Splices.{wrote_both}
 use Rattle.documents.specs.Grammar.{spelled_document}
 use Rattle.documents.proofs.Shapes.{wrote_single, wrote_chain}
-use Rattle.documents.proofs.writer.+write.Goals as goal
-
-pub returns-in-Empty : goal.returns-in-Empty
-returns-in-Empty t c = λ x h.
-    let out = c.args.out.now in
-    subst (λ d. Wrote out out c.args.place (spelled_document d) c.args.place) (sym (c.in-Empty.ensures x h)) (wrote_none out c.args.place)
+use Rattle.documents.proofs.writer.Table.+write.Goals as goal
 
 pub returns-in-Address : goal.returns-in-Address
 returns-in-Address t c = λ x h.
