@@ -13,6 +13,8 @@ use Rattle.documents.specs.declared.reader.Reached.{Reached}
 use Rattle.documents.specs.Grammar.{comma_before, spelled_document, Small}
 use Rattle.documents.specs.Nodes.{size, root, nodes_from, nodes_for}
 use Rattle.documents.specs.Built.{NoDigit, Closing, Built, ReadsNumber, BuildsList, BuildsItem, BuildsText}
+use Rattle.std.specs.Option.{MatchOption}
+use Rattle.std.proofs.Common.{Some, None, Option, ◌-◌}
 use Rattle.forms.proofs.Findings.{never}
 use Rattle.documents.proofs.Tables.{length_nodes}
 use Rattle.documents.proofs.Texts.{closing_no_digit, element_bytes}
@@ -30,6 +32,12 @@ front t p {b} {rest} e = (
 -- a byte that is not 0 stands before the end
 pub byte_within : (t : List ℕ) (p b : ℕ) → get_or t p 0 ≡ b → 0 < b → p < length t
 byte_within t p b e some = ⊎_elim (λ lt. lt) (λ le. let z = get_or_past t p 0 le in absurd (omega arith)) (cases_lt p (length t))
+
+-- the digit at a place, by its byte
+pub digit_there : (text : List ℕ) (place : ℕ) (r : Option ℕ) → place < length text → MatchOption r ((d : ℕ) → (d < 10) × (get_or text place 0 ≡ 48 + d) → ⊥) (λ d. (d < 10) × (get_or text place 0 ≡ 48 + d)) →
+    MatchOption r (place < length text → 48 ≤ get_or text place 0 → get_or text place 0 ≤ 57 → ⊥) (λ d. (place < length text) × (get_or text place 0 ≡ 48 + d) × (d < 10))
+digit_there text place None lt none = λ _ low high. none (get_or text place 0 - 48) (omega arith, omega arith)
+digit_there text place (Some d) lt (small, is) = (lt, is, small)
 
 -- and what stands behind a front
 pub behind : (t : List ℕ) (p : ℕ) (s : List ℕ) {rest : List ℕ} → drop p t ≡ s ++ rest → drop (p + length s) t ≡ rest

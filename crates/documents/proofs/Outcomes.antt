@@ -4,9 +4,8 @@ use Rattle.std.proofs.lemmas.Bool.{ltb-true, ltb-false}
 use Rattle.std.proofs.lemmas.List.{take_at}
 use Rattle.forms.specs.Refusals.Outcome.{gives}
 use Rattle.documents.specs.declared.nodes.Node.{Node}
-use Rattle.documents.specs.declared.scan.Judgement.TheVariants.{Wrong, Deep, Text as Whole}
 use Rattle.documents.specs.declared.faults.ReadFault.{ReadFault}
-use Rattle.documents.specs.declared.faults.ReadFault.TheVariants.{Wrong as WrongFault, TooDeep, TooManyNodes}
+use Rattle.documents.specs.declared.faults.ReadFault.TheVariants.{TooLong as LongText, Wrong, TooDeep, TooManyNodes}
 use Rattle.documents.specs.Limits.{max_nodes, max_document}
 use Rattle.documents.specs.Nodes.{nodes_for}
 use Rattle.documents.specs.Reading.Reads.{is_wrong, is_deep, is_large, is_read}
@@ -29,16 +28,16 @@ use Rattle.documents.proofs.Shapes.{room_for, no_room}
 use Rattle.documents.proofs.Writing.{read_is_written_back}
 
 module _ (bytes : List ℕ) (before : List Node) (short : length bytes ≤ max_document) where
-  pub read_wrong : (k : ℕ) → JudgedAs bytes (Wrong k) → ReadInto bytes before before (Err (WrongFault k))
-  read_wrong k (w, none) = (is_wrong short w none, refl)
+  pub read_refused : (e : ReadFault) → JudgedAs bytes (Err e) → ReadInto bytes before before (Err e)
+  read_refused (Wrong k) (w, none) = (is_wrong short w none, refl)
+  read_refused (TooDeep k) (lowest, on) = (is_deep short lowest on, refl)
+  read_refused LongText none = absurd none
+  read_refused TooManyNodes none = absurd none
 
-  pub read_deep : (k : ℕ) → JudgedAs bytes (Deep k) → ReadInto bytes before before (Err (TooDeep k))
-  read_deep k (lowest, on) = (is_deep short lowest on, refl)
-
-  pub read_large : (n : ℕ) → JudgedAs bytes (Whole n) → true ≡ ltb (min (length before) max_nodes) n → ReadInto bytes before before (Err TooManyNodes)
+  pub read_large : (n : ℕ) → JudgedAs bytes (Ok n) → true ≡ ltb (min (length before) max_nodes) n → ReadInto bytes before before (Err TooManyNodes)
   read_large n (d, t, none, is) e = let large = ltb-true (min (length before) max_nodes) n (sym e) in (is_large d short t none (omega arith), refl)
 
-  pub read_done : (n : ℕ) (after : List Node) → JudgedAs bytes (Whole n) → false ≡ ltb (min (length before) max_nodes) n → BuildsText bytes before after → ReadInto bytes before after (Ok n)
+  pub read_done : (n : ℕ) (after : List Node) → JudgedAs bytes (Ok n) → false ≡ ltb (min (length before) max_nodes) n → BuildsText bytes before after → ReadInto bytes before after (Ok n)
   read_done n after (d, t, none, is) e builds =
       let fits = ltb-false (min (length before) max_nodes) n (sym e) in
       let (h, spelled) = (texts_are_spelled bytes d).0 t in

@@ -1,12 +1,14 @@
 -- A scan of document text, byte by byte: what may come next. Assumes nothing.
-use Rattle.std.specs.Prelude.{◌≡◌, ℕ, zero, suc, ◌+◌, ◌-◌, ◌*◌, Bool, true, false, cond, ◌&&◌, List, [], ◌∷◌, Decides, ◌==◌, nat_le, nat_lt}
+use Rattle.std.specs.Prelude.{◌≡◌, ℕ, zero, suc, ◌+◌, ◌-◌, ◌*◌, Bool, true, false, cond, ◌&&◌, List, [], ◌∷◌, Some, None, Option, Decides, ◌==◌, nat_le, nat_lt}
 use Rattle.forms.specs.Limits.{max_rows, label_count}
 use Rattle.documents.specs.declared.scan.Phase.{Phase}
 use Rattle.documents.specs.declared.scan.Phase.TheVariants.{MayBegin as may_begin, MustBegin as must_begin, InLabel as in_label, AfterAt as after_at, InRow as in_row, AfterElement as after_element}
-use Rattle.documents.specs.declared.scan.State.{State}
-use Rattle.documents.specs.declared.scan.State.TheVariants.{Within as within, Stuck as stuck}
 use Rattle.forms.specs.Documents.{Document}
 use Rattle.documents.specs.Grammar.{Text, GoesOn, level}
+
+-- After some bytes: how many brackets are open, and where in the list the scan is; or none, where no text goes on so.
+abbrev pub State : Type 0
+State = Option (ℕ × Phase)
 
 -- the list may end here
 abbrev pub may_end : Phase → Bool
@@ -26,41 +28,41 @@ may_follow limit v b = is_digit b && (nat_le 1 v && nat_lt (v * 10 + (b - 48)) l
 
 -- a bracket is closed
 abbrev pub closed : ℕ → State
-closed zero = stuck
-closed (suc n) = within n after_element
+closed zero = None
+closed (suc n) = Some (n, after_element)
 
 -- an item begins
 abbrev pub begun : ℕ → ℕ → State
-begun n b = cond (is_digit b) (within n (in_label (b - 48))) (cond (b == 64) (within n after_at) stuck)
+begun n b = cond (is_digit b) (Some (n, in_label (b - 48))) (cond (b == 64) (Some (n, after_at)) None)
 
 -- a byte other than ]
 abbrev pub moved : ℕ → Phase → ℕ → State
 moved n may_begin b = begun n b
 moved n must_begin b = begun n b
-moved n (in_label v) b = cond (b == 91) (within (suc n) may_begin) (cond (may_follow label_count v b) (within n (in_label (v * 10 + (b - 48)))) stuck)
-moved n after_at b = cond (is_digit b) (within n (in_row (b - 48))) stuck
-moved n (in_row v) b = cond (may_follow max_rows v b) (within n (in_row (v * 10 + (b - 48)))) stuck
-moved n after_element b = cond (b == 44) (within n must_begin) stuck
+moved n (in_label v) b = cond (b == 91) (Some (suc n, may_begin)) (cond (may_follow label_count v b) (Some (n, in_label (v * 10 + (b - 48)))) None)
+moved n after_at b = cond (is_digit b) (Some (n, in_row (b - 48))) None
+moved n (in_row v) b = cond (may_follow max_rows v b) (Some (n, in_row (v * 10 + (b - 48)))) None
+moved n after_element b = cond (b == 44) (Some (n, must_begin)) None
 
 abbrev pub step : State → ℕ → State
-step stuck b = stuck
-step (within n p) b = cond (b == 93) (cond (may_end p) (closed n) stuck) (moved n p b)
+step None b = None
+step (Some (n, p)) b = cond (b == 93) (cond (may_end p) (closed n) None) (moved n p b)
 
 abbrev pub run : State → List ℕ → State
 run s [] = s
 run s (b ∷ bytes) = run (step s b) bytes
 
 abbrev pub scan : List ℕ → State
-scan bytes = run (within 0 may_begin) bytes
+scan bytes = run (Some (0, may_begin)) bytes
 
 abbrev pub goes_on : State → Bool
-goes_on (within n p) = true
-goes_on stuck = false
+goes_on (Some (n, p)) = true
+goes_on None = false
 
 abbrev pub is_whole : State → Bool
-is_whole (within zero p) = may_end p
-is_whole (within (suc n) p) = false
-is_whole stuck = false
+is_whole (Some (zero, p)) = may_end p
+is_whole (Some (suc n, p)) = false
+is_whole None = false
 
 -- The scan tells whether bytes are a text, and whether they go on.
 abbrev pub ScanTellsTexts : Type 0
@@ -71,4 +73,4 @@ ScanTellsGoingOn = (bytes : List ℕ) → Decides (goes_on (scan bytes)) (GoesOn
 
 -- And where they go on, it tells the level of brackets.
 abbrev pub ScanTellsLevel : Type 0
-ScanTellsLevel = (bytes : List ℕ) (n : ℕ) (p : Phase) → scan bytes ≡ within n p → level bytes ≡ n
+ScanTellsLevel = (bytes : List ℕ) (n : ℕ) (p : Phase) → scan bytes ≡ Some (n, p) → level bytes ≡ n

@@ -1,10 +1,11 @@
 // A scan of document text, byte by byte: where it goes on, how deep its brackets are, and how many nodes it takes.
-ghost use Rattle.std.specs.Prelude.{◌≡◌, ◌≤◌, if◌then◌else◌};
-ghost use Rattle.documents.specs.declared.scan.State.TheVariants.{Within};
+ghost use Rattle.std.specs.Prelude.{◌≡◌, ◌+◌, ◌-◌, ◌*◌, ◌≤◌, if◌then◌else◌};
 ghost use Rattle.documents.specs.Limits.{max_levels};
-ghost use Rattle.documents.specs.Scan.{may_end, is_digit, may_follow, closed, begun, moved, step, is_whole};
+ghost use Rattle.documents.specs.Scan.{may_end, may_follow, closed, begun, moved, step, is_whole};
 ghost use Rattle.documents.specs.Judged.{JudgedAs, marks};
 
+use super::faults::ReadFault;
+use forms::bytes::digit;
 use forms::{LABELS, MAX_ROWS};
 
 // Brackets stand in brackets at most so deep.
@@ -26,21 +27,6 @@ pub enum Phase {
     AfterElement,
 }
 
-// Within so many open brackets, or no text goes on so.
-#[derive(Clone, Copy)]
-pub enum State {
-    Within(usize, Phase),
-    Stuck,
-}
-
-// What a text is found to be: wrong at a place, too deep at a place, or a document of so many nodes.
-#[derive(Clone, Copy)]
-pub enum Judgement {
-    Wrong(usize),
-    Deep(usize),
-    Text(usize),
-}
-
 fn ends(phase: Phase) -> bool
     ensures { result ≡ may_end phase }
 {
@@ -50,81 +36,63 @@ fn ends(phase: Phase) -> bool
     }
 }
 
-fn digit(byte: u8) -> bool
-    ensures { result ≡ is_digit byte }
+// The number that a digit makes behind another one, if it stays below the limit and has no leading zero.
+fn longer(limit: u8, number: u8, byte: u8) -> Option<u8>
+    ensures { result ≡ (if may_follow limit number byte then Some (number * 10 + (byte - 48)) else None) }
 {
-    byte >= b'0' && byte <= b'9'
-}
-
-// A digit goes on with a number that stays below the limit and has no leading zero.
-fn follows(limit: usize, number: u8, byte: u8) -> bool
-    ensures { result ≡ may_follow limit number byte }
-{
-    digit(byte) && number >= 1 && number as usize * 10 + ((byte - b'0') as usize) < limit
-}
-
-fn close(level: usize) -> State
-    ensures { result ≡ closed level }
-{
-    if level == 0 {
-        State::Stuck
+    let value = number as usize * 10 + digit(byte)? as usize;
+    if number >= 1 && value < limit as usize {
+        Some(value as u8)
     } else {
-        State::Within(level - 1, Phase::AfterElement)
+        None
     }
 }
 
-fn begin(level: usize, byte: u8) -> State
+fn close(level: usize) -> Option<(usize, Phase)>
+    ensures { result ≡ closed level }
+{
+    Some((level.checked_sub(1)?, Phase::AfterElement))
+}
+
+fn begin(level: usize, byte: u8) -> Option<(usize, Phase)>
     ensures { result ≡ begun level byte }
 {
-    if digit(byte) {
-        State::Within(level, Phase::InLabel(byte - b'0'))
-    } else if byte == b'@' {
-        State::Within(level, Phase::AfterAt)
-    } else {
-        State::Stuck
+    match byte {
+        b'@' => Some((level, Phase::AfterAt)),
+        _ => Some((level, Phase::InLabel(digit(byte)?))),
     }
 }
 
 // After one byte more, which is no closing bracket.
-fn advance(level: usize, phase: Phase, byte: u8) -> State
+fn advance(level: usize, phase: Phase, byte: u8) -> Option<(usize, Phase)>
     requires { level ≤ max_levels }
     ensures { result ≡ moved level phase byte }
 {
     match phase {
         Phase::MayBegin | Phase::MustBegin => begin(level, byte),
-        Phase::InLabel(_) if byte == b'[' => State::Within(level + 1, Phase::MayBegin),
-        Phase::InLabel(number) if follows(LABELS as usize, number, byte) => State::Within(
-            level,
-            Phase::InLabel(number * 10 + (byte - b'0')),
-        ),
-        Phase::AfterAt if digit(byte) => State::Within(level, Phase::InRow(byte - b'0')),
-        Phase::InRow(number) if follows(MAX_ROWS, number, byte) => State::Within(
-            level,
-            Phase::InRow(number * 10 + (byte - b'0')),
-        ),
-        Phase::AfterElement if byte == b',' => State::Within(level, Phase::MustBegin),
-        _ => State::Stuck,
+        Phase::InLabel(_) if byte == b'[' => Some((level + 1, Phase::MayBegin)),
+        Phase::InLabel(number) => Some((level, Phase::InLabel(longer(LABELS, number, byte)?))),
+        Phase::AfterAt => Some((level, Phase::InRow(digit(byte)?))),
+        Phase::InRow(number) => Some((level, Phase::InRow(longer(MAX_ROWS as u8, number, byte)?))),
+        Phase::AfterElement => (byte == b',').then_some((level, Phase::MustBegin)),
     }
 }
 
-// After one byte more.
-fn next(level: usize, phase: Phase, byte: u8) -> State
+// After one byte more: how many brackets are open, and where in a list the scan is; none where no text goes on so.
+fn next(level: usize, phase: Phase, byte: u8) -> Option<(usize, Phase)>
     requires { level ≤ max_levels }
-    ensures { result ≡ step (Within level phase) byte }
+    ensures { result ≡ step (Some (level, phase)) byte }
 {
-    if byte != b']' {
-        return advance(level, phase, byte);
-    }
-    if ends(phase) {
-        close(level)
-    } else {
-        State::Stuck
+    match byte {
+        b']' if ends(phase) => close(level),
+        b']' => None,
+        _ => advance(level, phase, byte),
     }
 }
 
 // The text may end here.
 fn whole(level: usize, phase: Phase) -> bool
-    ensures { result ≡ is_whole (Within level phase) }
+    ensures { result ≡ is_whole (Some (level, phase)) }
 {
     level == 0 && ends(phase)
 }
@@ -136,29 +104,23 @@ fn nodes_of(byte: u8) -> usize
     if byte == b'[' || byte == b'@' { 1 } else { 0 }
 }
 
-// Goes through a text once. The first node of every table is void.
-pub fn judge(text: &[u8]) -> Judgement
+// Goes through a text once, and answers how many nodes its document takes. The first node of every table is void.
+pub fn judge(text: &[u8]) -> Result<usize, ReadFault>
     ensures { JudgedAs text.now result }
 {
     let mut level = 0;
     let mut phase = Phase::MayBegin;
     let mut nodes = 1;
-    for i in 0..text.len() {
-        let byte = text[i];
-        let (new, after) = match next(level, phase, byte) {
-            State::Stuck => return Judgement::Wrong(i),
-            State::Within(new, after) => (new, after),
-        };
-        if new > MAX_LEVELS {
-            return Judgement::Deep(i);
+    for (place, byte) in text.iter().enumerate() {
+        (level, phase) = next(level, phase, *byte).ok_or(ReadFault::Wrong { place })?;
+        if level > MAX_LEVELS {
+            return Err(ReadFault::TooDeep { place });
         }
-        level = new;
-        phase = after;
-        nodes += nodes_of(byte);
+        nodes += nodes_of(*byte);
     }
     if whole(level, phase) {
-        Judgement::Text(nodes)
+        Ok(nodes)
     } else {
-        Judgement::Wrong(text.len())
+        Err(ReadFault::Wrong { place: text.len() })
     }
 }

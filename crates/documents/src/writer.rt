@@ -42,8 +42,8 @@ fn sound(k: usize, node: Node) -> bool
 fn unsound(nodes: &[Node]) -> Option<usize>
     ensures { MatchOption result (Sound nodes.now) (λ k. Lowest (Unsound nodes.now) k) }
 {
-    for k in 0..nodes.len() {
-        if !sound(k, nodes[k]) {
+    for (k, node) in nodes.iter().enumerate() {
+        if !sound(k, *node) {
             return Some(k);
         }
     }
@@ -74,7 +74,7 @@ fn look(nodes: &[Node], k: u16) -> Shape
 fn spend(room: usize, n: usize) -> Option<usize>
     ensures { result ≡ rest room n }
 {
-    if n <= room { Some(room - n) } else { None }
+    room.checked_sub(n)
 }
 
 // The room left after the text of node k, or none if it is longer. It stops once the room is spent, however long the text is.
@@ -86,17 +86,15 @@ fn measure(nodes: &[Node], k: u16, room: usize) -> Option<usize>
     match look(nodes, k) {
         Shape::Empty => Some(room),
         Shape::Address(row) => spend(room, 1 + digits(row)),
-        Shape::Single(label, inside) => match spend(room, 2 + digits(label)) {
-            Some(left) => measure(nodes, inside, left),
-            None => None,
-        },
-        Shape::Chain(label, inside, following) => match spend(room, 3 + digits(label)) {
-            Some(left) => match measure(nodes, inside, left) {
-                Some(more) => measure(nodes, following, more),
-                None => None,
-            },
-            None => None,
-        },
+        Shape::Single(label, inside) => {
+            let left = spend(room, 2 + digits(label))?;
+            measure(nodes, inside, left)
+        }
+        Shape::Chain(label, inside, following) => {
+            let left = spend(room, 3 + digits(label))?;
+            let more = measure(nodes, inside, left)?;
+            measure(nodes, following, more)
+        }
     }
 }
 
@@ -144,8 +142,6 @@ pub fn write_document(nodes: &[Node], root: usize, buffer: &mut [u8]) -> Result<
     if root >= nodes.len() {
         return Err(WriteFault::RootOutside);
     }
-    match measure(nodes, root as u16, buffer.len().min(MAX_DOCUMENT)) {
-        Some(_) => Ok(write(nodes, root as u16, buffer, 0)),
-        None => Err(WriteFault::TooLong),
-    }
+    measure(nodes, root as u16, buffer.len().min(MAX_DOCUMENT)).ok_or(WriteFault::TooLong)?;
+    Ok(write(nodes, root as u16, buffer, 0))
 }

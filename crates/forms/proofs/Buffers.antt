@@ -1,34 +1,16 @@
 -- Row buffers as they are filled. Assumes nothing.
-use Rattle.std.proofs.Common.{◌≡◌, ℕ, ◌+◌, ◌<◌, ◌≤◌, true, false, ltb, leb, List, [], ◌∷◌, ◌++◌, length, get_or, take, set, replicate, sym, ap, ◌∙◌, ⊎_elim, arith, length-take}
-use Rattle.std.proofs.lemmas.Bool.{cases_eq, cases_lt, cond-true, cond-false, lt-ltb, le-ltb, le-leb}
-use Rattle.std.proofs.lemmas.List.{take_more_set, take_more, get_or-set_same, get_or-set_other, get_or-replicate, get_or_past}
+use Rattle.std.proofs.Common.{◌≡◌, ℕ, ◌+◌, ◌<◌, ◌≤◌, true, ltb, List, [], ◌∷◌, ◌++◌, length, get_or, take, set, replicate, sym, ap, ◌∙◌, ⊎_elim, arith, length-take}
+use Rattle.std.proofs.lemmas.Bool.{cases_eq, cases_lt, cond-true, lt-ltb}
+use Rattle.std.proofs.lemmas.List.{take_more, get_or-set_same, get_or-set_other, get_or-replicate, get_or_past}
 use Rattle.forms.specs.declared.Row.{Row}
 use Rattle.forms.specs.declared.Row.TheVariants.{Void}
 use Rattle.forms.specs.declared.buffer.RowBuffer.{RowBuffer}
 use Rattle.forms.specs.Limits.{max_rows}
-use Rattle.forms.specs.Rows.{fits, few}
+use Rattle.forms.specs.Rows.{fits}
 use Rattle.forms.specs.Buffers.{rows_of, pushed}
 
 -- a table of which the first n rows count
 module _ (table : List Row) (n : ℕ) (long : length table ≡ max_rows) (within : n ≤ max_rows) where
-  pub count_is : length (take n table) ≡ n
-  count_is = simp length-take (omega arith)
-
-  pub is_full : max_rows ≤ n → false ≡ ltb (length (take n table)) max_rows
-  is_full h = sym (le-ltb (length (take n table)) max_rows (omega (arith, count_is)))
-
-  pub has_room : n < max_rows → true ≡ ltb (length (take n table)) max_rows
-  has_room h = sym (lt-ltb (length (take n table)) max_rows (omega (arith, count_is)))
-
-  pub not_pushed : (row : Row) → max_rows ≤ n → take n table ≡ pushed (take n table) row
-  not_pushed row h = sym (cond-false (ltb (length (take n table)) max_rows) (take n table ++ (row ∷ [])) (take n table) (sym (is_full h)))
-
-  pub is_pushed : (row row' : Row) → row' ≡ row → n < max_rows → take (n + 1) (set table n row') ≡ pushed (take n table) row
-  is_pushed row row' e h =
-      let lt : n < length table = omega arith in
-      take_more_set table n row' lt ∙ ap (λ x. take n table ++ (x ∷ [])) e
-      ∙ sym (cond-true (ltb (length (take n table)) max_rows) (take n table ++ (row ∷ [])) (take n table) (sym (has_room h)))
-
   pub all_fit : (row : Row) → n < max_rows → fits row ≡ true → ((k : ℕ) → fits (get_or table k Void) ≡ true) → (k : ℕ) → fits (get_or (set table n row) k Void) ≡ true
   all_fit row h here fit k = ⊎_elim
       (λ e. let lt : n < length table = omega arith in ap fits (ap (λ j. get_or (set table n row) j Void) e ∙ get_or-set_same table n row Void lt) ∙ here)
@@ -48,9 +30,6 @@ copied_more rows held i row h le e is =
 -- the same of a buffer, before and after the push
 pub buffer_copied_more : (rows : List Row) (i : ℕ) (row : Row) (before after now : RowBuffer) → i < length rows → length rows ≤ max_rows → rows_of before ≡ take i rows → row ≡ get_or rows i Void → rows_of after ≡ pushed (rows_of before) row → now ≡ after → rows_of now ≡ take (i + 1) rows
 buffer_copied_more rows i row before after now h le e is push same = ap rows_of same ∙ push ∙ copied_more rows (rows_of before) i row h le e is
-
-pub few_is : (rows : List Row) → length rows ≤ max_rows → few rows ≡ rows
-few_is rows h = cond-true (leb (length rows) max_rows) rows [] (le-leb (length rows) max_rows h)
 
 pub all_void : (k : ℕ) → get_or (replicate max_rows Void) k Void ≡ Void
 all_void k = ⊎_elim

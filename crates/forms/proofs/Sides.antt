@@ -2,7 +2,7 @@
 use Rattle.std.proofs.Common.{◌≡◌, ℕ, ◌+◌, ◌-◌, ◌<◌, ◌≤◌, leb, List, [], map, length, get_or, Some, None, Option, sym, ap, ◌∙◌, ⊎_elim, arith}
 use lib.ListN.{length-map}
 use Rattle.std.specs.List.{slice_get}
-use Rattle.std.proofs.lemmas.Bool.{cases_lt, cond-true, cond-false, le-leb, lt-leb}
+use Rattle.std.proofs.lemmas.Bool.{cases_lt, cond-true, le-leb}
 use Rattle.std.proofs.lemmas.List.{get_or_append_left, get_or-append_right, get_or-map}
 use Rattle.std.proofs.lemmas.Option.{slice_get-get_or, slice_get_past}
 use Rattle.forms.specs.declared.Row.{Row}
@@ -29,9 +29,6 @@ none_nth rows k e = ⊎_elim
 
 pub joined_fits : (a b : List Row) → length a + length b ≤ max_rows → joined a b ≡ sides a b
 joined_fits a b h = cond-true (leb (length a + length b) max_rows) (sides a b) [] (le-leb (length a + length b) max_rows h)
-
-pub joined_many : (a b : List Row) → max_rows < length a + length b → joined a b ≡ []
-joined_many a b h = cond-false (leb (length a + length b) max_rows) (sides a b) [] (lt-leb (length a + length b) max_rows h)
 
 pub length_joined : (a b : List Row) → length a + length b ≤ max_rows → length (joined a b) ≡ length a + length b
 length_joined a b h = ap length (joined_fits a b h) ∙ length_sides a b
@@ -65,6 +62,3 @@ pub from_turned : (a : List Row) (k : ℕ) (r : Row) → Some r ≡ slice_get a 
 from_turned a k r e =
     let (lt, is) = some_nth a k r e in
     ap (λ x. Some (turn x)) is ∙ sym (slice_get-get_or (map turn a) k Void (omega (arith, length-map a turn)) ∙ ap Some (get_or-map turn a k Void Void lt))
-
-pub from_none_turned : (a : List Row) (k : ℕ) → None ≡ slice_get a k → None ≡ slice_get (map turn a) k
-from_none_turned a k e = let s = none_nth a k e in sym (slice_get_past (map turn a) k (omega (arith, length-map a turn)))

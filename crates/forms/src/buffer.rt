@@ -7,6 +7,7 @@ ghost use Rattle.forms.specs.Rows.{fits};
 use super::{MAX_ROWS, Row};
 
 // The first `count` rows of `table`.
+// As it is: no function here allocates, so the rows have fixed memory; the kit's ArrayVec would be one more crate to trust.
 #[derive(Drop)]
 pub struct RowBuffer {
     table: [Row; MAX_ROWS],

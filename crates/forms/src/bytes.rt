@@ -1,5 +1,5 @@
 // Bytes and numbers as text, put into a buffer one after another.
-ghost use Rattle.std.specs.Prelude.{◌≡◌, ◌≤◌, [], ◌∷◌, length, decimal};
+ghost use Rattle.std.specs.Prelude.{◌≡◌, ℕ, ◌+◌, ◌<◌, ◌≤◌, [], ◌∷◌, length, decimal, MatchOption};
 ghost use Rattle.forms.specs.Splices.{Wrote, Puts};
 
 // Writes a byte and answers the place behind it; no change, and the place itself, where there is no room.
@@ -13,7 +13,18 @@ pub fn put(out: &mut [u8], place: usize, byte: u8) -> usize
     place + 1
 }
 
+// The number that a digit stands for.
+pub fn digit(byte: u8) -> Option<u8>
+    ensures { MatchOption result ((d : ℕ) → (d < 10) × (byte ≡ 48 + d) → ⊥) (λ d. (d < 10) × (byte ≡ 48 + d)) }
+{
+    match byte {
+        b'0'..=b'9' => Some(byte - b'0'),
+        _ => None,
+    }
+}
+
 // How many digits a number has.
+#[tactic(auto, using(crate::proofs::Decimals::one_digit, crate::proofs::Decimals::two_digits, crate::proofs::Decimals::three_digits))]
 pub fn digits(number: u8) -> usize
     ensures value { result ≡ length (decimal number) }
     ensures few { (1 ≤ result) × (result ≤ 3) }
@@ -27,6 +38,7 @@ pub fn digits(number: u8) -> usize
     }
 }
 
+#[tactic(auto, using(std::proofs::lemmas::Fmt::decimal_digit))]
 fn put_digits(out: &mut [u8], place: usize, number: u8) -> usize
     ensures { Wrote out.old out.new place (decimal number) result }
 {

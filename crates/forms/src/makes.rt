@@ -25,8 +25,7 @@ fn shifted(by: u8, own: usize, row: Row) -> Row
     ensures { result ≡ shift by own row }
 {
     match row {
-        Row::Void => Row::Void,
-        Row::Nothing => Row::Nothing,
+        Row::Void | Row::Nothing => row,
         Row::Channel(capability, payload) => Row::Channel(capability, raise(by, own, payload)),
         Row::Element {
             labels,
@@ -65,15 +64,11 @@ impl<A: FormSource, B: FormSource> FormSource for Joined<A, B> {
             return None;
         }
         if (number as usize) < own {
-            match self.first.row(number) {
-                Some(row) => Some(shifted(0, own, row)),
-                None => None,
-            }
+            self.first.row(number).map(|row| shifted(0, own, row))
         } else {
-            match self.second.row(number - own as u8) {
-                Some(row) => Some(shifted(own as u8, other, row)),
-                None => None,
-            }
+            self.second
+                .row(number - own as u8)
+                .map(|row| shifted(own as u8, other, row))
         }
     }
 }
@@ -104,9 +99,6 @@ impl<S: FormSource> FormSource for Turned<S> {
     }
 
     fn row(&self, number: u8) -> Option<Row> {
-        match self.source.row(number) {
-            Some(row) => Some(swapped(row)),
-            None => None,
-        }
+        self.source.row(number).map(swapped)
     }
 }

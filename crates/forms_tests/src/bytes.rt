@@ -1,5 +1,5 @@
 // Bytes and numbers put into a buffer.
-use forms::bytes::{digits, put, put_number};
+use forms::bytes::{digit, digits, put, put_number};
 
 #[test]
 fn numbers_by_their_digits(rt: HostRuntime) {
@@ -26,4 +26,11 @@ fn no_room(rt: HostRuntime) {
     assert!(rt; &buffer == b"...");
     assert_eq!(rt; put_number(&mut buffer, 0, 100), 3);
     assert!(rt; &buffer == b"100");
+}
+
+#[test]
+fn digits_alone_are_digits(rt: HostRuntime) {
+    assert_eq!(rt; digit(b'0'), Some(0));
+    assert_eq!(rt; digit(b'9'), Some(9));
+    assert!(rt; digit(b'/').is_none() && digit(b':').is_none() && digit(b'a').is_none());
 }

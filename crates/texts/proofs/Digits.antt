@@ -2,8 +2,10 @@
 use Rattle.std.proofs.Common.{◌≡◌, ℕ, zero, suc, ◌+◌, ◌*◌, ◌/◌, ◌%◌, ◌^◌, ◌<◌, ◌⊎◌, List, [], ◌∷◌, ◌++◌, length, get_or, take, Some, None, decimal, Option, sym, refl, ap, ◌∙◌, subst, inl, inr, ⊎_elim, mod-lt, mul_assoc, pow-suc, div-add-mod', div-one, add-one, arith}
 use native.Mathlib.Nat.{pow-le-pow_right}
 use Rattle.std.specs.List.{AllByRecursion}
+use Rattle.std.specs.Option.{MatchOption}
+use Rattle.std.proofs.lemmas.Bool.{cases_lt, lt-ltb, le-ltb}
 use Rattle.std.proofs.lemmas.Fmt.{decimal_digit, decimal_step}
-use Rattle.std.proofs.lemmas.List.{take_more, take_all, nil_from_length}
+use Rattle.std.proofs.lemmas.List.{take_more, nil_from_length}
 use Rattle.std.proofs.ByRecursion.{All-get_or}
 use Rattle.forms.specs.Limits.{max_rows}
 use Rattle.texts.specs.Limits.{label_digits}
@@ -47,7 +49,7 @@ number_two f t o l pos ht ho h et eo =
     let s : decimal (t * 10 + o) ≡ (48 + t) ∷ (48 + o) ∷ [] = d ∙ (rw (q, r, decimal_digit t ht) refl) in
     (h, list_of_two f l ∙ (ap (λ x. x ∷ get_or f 1 0 ∷ []) et ∙ (ap (λ x. (48 + t) ∷ x ∷ []) eo ∙ sym s)))
 
-pub told_one : (f : List ℕ) (r : Option ℕ) → length f ≡ 1 → Told (λ d. (d < 10) × (get_or f 0 0 ≡ 48 + d)) r → Told (OfNumber f) r
+pub told_one : (f : List ℕ) (r : Option ℕ) → length f ≡ 1 → MatchOption r ((d : ℕ) → (d < 10) × (get_or f 0 0 ≡ 48 + d) → ⊥) (λ d. (d < 10) × (get_or f 0 0 ≡ 48 + d)) → Told (OfNumber f) r
 told_one f None l none = λ v h. ⊎_elim (λ (_, small, e). none v (small, e)) (λ (long, _, _, _, _). absurd (omega arith)) (number_shape f v h)
 told_one f (Some d) l (h, e) = number_one f d l h e
 
@@ -56,6 +58,11 @@ pub not_two : (f : List ℕ) → length f ≡ 2 → ((v : ℕ) → v < max_rows 
 not_two f l none v h = ⊎_elim (λ (short, _, _). absurd (omega arith)) (none v h.0) (number_shape f v h)
 
 -- LABEL SETS
+-- a byte other than a to f is a digit as it is in decimal
+pub told_hex : (b : ℕ) (r : Option ℕ) → (b < 97) ⊎ (102 < b) → MatchOption r ((d : ℕ) → (d < 10) × (b ≡ 48 + d) → ⊥) (λ d. (d < 10) × (b ≡ 48 + d)) → Told (λ d. (d < 16) × (b ≡ digit_in_hex d)) r
+told_hex b None out none = λ d (h, e). ⊎_elim (λ s. none d (s, (rw (lt-ltb d 10 s) at e))) (λ l. let is : b ≡ 87 + d = (rw (le-ltb d 10 l) at e) in ⊎_elim (λ below. omega arith) (λ above. omega arith) out) (cases_lt d 10)
+told_hex b (Some d) out (h, e) = (omega arith, rw (lt-ltb d 10 h) e)
+
 -- one digit more behind
 hexadecimal_push : (k n d : ℕ) → n < 16 ^ k → d < 16 → hexadecimal (suc k) (n * 16 + d) ≡ hexadecimal k n ++ (digit_in_hex d ∷ [])
 unfolding hexadecimal
@@ -89,12 +96,6 @@ so_far_more f i v d l going h e = record {
 
 pub so_far_fits : (f : List ℕ) (i v d : ℕ) → length f ≡ label_digits → i < length f → ReadSoFar f i v → d < 16 → v * 16 + d < 2 ^ 64
 so_far_fits f i v d e l going h = omega (arith, going.small, pow-le-pow_right {n = 16} (omega arith) {i = i} {j = 15} (omega arith))
-
-pub so_far_all : (f : List ℕ) (i v : ℕ) → length f ≡ label_digits → i ≡ length f → ReadSoFar f i v → OfLabels f v
-so_far_all f i v e l going =
-    let k : i ≡ label_digits = omega arith in
-    let s : v < 16 ^ label_digits = subst (λ x. v < 16 ^ x) k going.small in
-    (s, sym (take_all i f (omega arith)) ∙ (going.digits ∙ ap (λ x. hexadecimal x v) k))
 
 pub labels_long : (f : List ℕ) (v : ℕ) → OfLabels f v → length f ≡ label_digits
 labels_long f v (h, e) = ap length e ∙ length_hexadecimal label_digits v

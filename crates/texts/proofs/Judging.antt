@@ -168,3 +168,7 @@ one_outcome = same
 
 pub judgement_is_one : JudgementIsOne
 judgement_is_one bytes = let (o, j) = judged bytes in (o, j, λ p j'. same bytes j j')
+
+-- what every call of reading brings
+pub text_laws : JudgementIsOne × (RightIsSpelled × SpelledIsShort)
+text_laws = (judgement_is_one, (right_is_spelled, spelled_is_short))

@@ -1,5 +1,5 @@
 -- Reading a line field by field.
-use Rattle.std.proofs.Common.{◌≡◌, ℕ, zero, suc, ◌<◌, List, [], ◌∷◌, ◌++◌, length, get_or, drop, Ok, Err, Result, sym, refl, ap, ◌∙◌, subst, arith}
+use Rattle.std.proofs.Common.{◌≡◌, ℕ, zero, suc, ◌<◌, List, [], ◌∷◌, ◌++◌, length, get_or, Ok, Err, Result, Bor, sym, refl, ap, ◌∙◌, subst, arith}
 use Rattle.std.specs.List.{AllByRecursion}
 use Rattle.forms.specs.declared.Row.{Row}
 use Rattle.texts.specs.declared.kinds.Kind.{Kind}
@@ -92,13 +92,13 @@ pub whole_line : (r : Row) (k : Kind) (bytes first rest : List ℕ) → OfKind (
 whole_line r k bytes first rest e stop is fields = field_bytes bytes (letter k ∷ []) first 44 e stop ∙ cc (spelled_line r rest)
 
 -- a line by its kind and its other fields
-abbrev KindRead : List ℕ → ℕ → ℕ → Kind → Type 0
-KindRead bytes start first k = OfKind (field (drop start bytes)) k × (from_stop (drop start bytes) ≡ 44 ∷ drop first bytes)
+abbrev KindRead : List ℕ → List ℕ → Kind → Type 0
+KindRead bytes first k = OfKind (field bytes) k × (from_stop bytes ≡ 44 ∷ first)
 
-pub line_fields : (bytes : List ℕ) (start first : ℕ) (k' k : Kind) → k' ≡ k → KindRead bytes start first k' → (r : Result (Row × ℕ) ℕ) → FieldsRead k bytes first r → LineRead bytes start r
-line_fields bytes start first k' k e read (Ok p) (proper, is, fields) = (proper, whole_line p.0 k' (drop start bytes) (drop first bytes) (drop p.1 bytes) read.0 read.1 (cc) fields)
-line_fields bytes start first k' k e read (Err f) wrong = wrong (drop start bytes) (subst (λ x. RightFields x 1 (drop start bytes) (drop first bytes)) e (kind_right k' (drop start bytes) (drop first bytes) read.0 read.1))
+pub line_fields : (bytes first : List ℕ) (k' k : Kind) → k' ≡ k → KindRead bytes first k' → (r : Result (Row × Bor (List ℕ)) ℕ) → FieldsRead k first r → LineRead bytes r
+line_fields bytes first k' k e read (Ok p) (proper, is, fields) = (proper, whole_line p.0 k' bytes first p.1.now read.0 read.1 (cc) fields)
+line_fields bytes first k' k e read (Err f) wrong = wrong bytes (subst (λ x. RightFields x 1 bytes first) e (kind_right k' bytes first read.0 read.1))
 
 -- a row without other fields
-pub line_blanks : (bytes : List ℕ) (start first : ℕ) (k' k : Kind) → k' ≡ k → KindRead bytes start first k' → contents k ≡ the_letter k ∷ no_bytes ∷ no_bytes ∷ no_bytes ∷ [] → (f : ℕ) → BlanksRead bytes first (Err f) → FirstWrong f (drop start bytes)
-line_blanks bytes start first k' k e read blank f wrong = wrong k (drop start bytes) blank (subst (λ x. RightFields x 1 (drop start bytes) (drop first bytes)) e (kind_right k' (drop start bytes) (drop first bytes) read.0 read.1))
+pub line_blanks : (bytes first : List ℕ) (k' k : Kind) → k' ≡ k → KindRead bytes first k' → contents k ≡ the_letter k ∷ no_bytes ∷ no_bytes ∷ no_bytes ∷ [] → (f : ℕ) → BlanksRead first (Err f) → FirstWrong f bytes
+line_blanks bytes first k' k e read blank f wrong = wrong k bytes blank (subst (λ x. RightFields x 1 bytes first) e (kind_right k' bytes first read.0 read.1))

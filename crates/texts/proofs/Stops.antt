@@ -1,52 +1,52 @@
 -- Where a field ends.
-use Rattle.std.proofs.Common.{◌≡◌, ℕ, ◌+◌, ◌-◌, ◌<◌, ◌≤◌, true, false, List, [], ◌∷◌, ◌++◌, length, get_or, take, drop, sym, refl, ap, ◌∙◌, arith}
-use Rattle.std.proofs.lemmas.List.{take_more, drop_more, drop_all, append_assoc, append-nil, get_or-drop, length-drop}
+use Rattle.std.proofs.Common.{◌≡◌, ℕ, zero, suc, ◌+◌, ◌-◌, ◌<◌, true, false, List, [], ◌∷◌, length, get_or, take, drop, Some, None, Err, sym, refl, ap, subst, add-one, arith}
+use Rattle.std.specs.List.{position}
+use Rattle.std.proofs.lemmas.Bool.Decides.{nat_tests}
+use Rattle.std.proofs.lemmas.List.Sums.{fails_before_first}
+use Rattle.std.proofs.lemmas.List.{length-drop}
+use Rattle.std.proofs.lemmas.List.Quantifiers.{position-Some}
 use Rattle.texts.specs.RowText.{stops, field, from_stop, end_of}
-use Rattle.texts.specs.Reading.{Ended}
+use Rattle.texts.specs.Reading.{FieldRead}
+use Rattle.std.proofs.lemmas.List.{take_all, length-drop}
 use Rattle.forms.proofs.Findings.{never}
-use Rattle.texts.proofs.RightLines.{end_stops}
 
--- no stop from the start to the end
-pub record NoStop (bytes : List ℕ) (start end : ℕ) : Type 0 where
-  pub from : start ≤ end
-  pub holds : field (drop start bytes) ≡ take (end - start) (drop start bytes) ++ field (drop end bytes)
-  pub rest : from_stop (drop start bytes) ≡ from_stop (drop end bytes)
+-- the first stop is the byte i
+stop_at : (f : List ℕ) (i : ℕ) → i < length f → stops (get_or f i 0) ≡ true → ((k : ℕ) → k < i → stops (get_or f k 0) ≡ false) → (field f ≡ take i f) × (from_stop f ≡ get_or f i 0 ∷ drop (suc i) f)
+stop_at [] i l s none = absurd (omega arith)
+stop_at (b ∷ f) zero l s none = rw s (refl, refl)
+stop_at (b ∷ f) (suc i) l s none =
+    let (front, rest) = stop_at f i (omega arith) s (λ k h. none (suc k) (omega arith)) in
+    rw (none 0 (omega arith)) (ap (λ t. b ∷ t) front, rest)
 
-pub no_stop_more : (bytes : List ℕ) (start end : ℕ) → NoStop bytes start end → end < length bytes → stops (get_or bytes end 0) ≡ false → NoStop bytes start (end + 1)
-no_stop_more bytes start end going l s =
-    let b = get_or bytes end 0 in
-    let d = drop_more bytes end 0 l in
-    let n : end + 1 - start ≡ end - start + 1 = omega (arith, going.from) in
-    let g : get_or (drop start bytes) (end - start) 0 ≡ b = get_or-drop start bytes (end - start) 0 ∙ ap (λ i. get_or bytes i 0) (omega (arith, going.from)) in
-    let t : take (end + 1 - start) (drop start bytes) ≡ take (end - start) (drop start bytes) ++ (b ∷ []) =
-    ap (λ i. take i (drop start bytes)) n ∙ (take_more (drop start bytes) (end - start) 0 (omega (arith, going.from, length-drop start bytes)) ∙ ap (λ x. take (end - start) (drop start bytes) ++ (x ∷ [])) g) in
-    let f : field (drop end bytes) ≡ b ∷ field (drop (end + 1) bytes) = ap field d ∙ (rw s refl) in
-    let r : from_stop (drop end bytes) ≡ from_stop (drop (end + 1) bytes) = ap from_stop d ∙ (rw s refl) in
-    record {
-      from = omega (arith, going.from);
-      holds = going.holds ∙ (ap (λ x. take (end - start) (drop start bytes) ++ x) f ∙ (sym (append_assoc (take (end - start) (drop start bytes)) (b ∷ []) (field (drop (end + 1) bytes))) ∙ ap (λ x. x ++ field (drop (end + 1) bytes)) (sym t)));
-      rest = going.rest ∙ r;
-    }
+stop_never : (f : List ℕ) → ((k : ℕ) → k < length f → stops (get_or f k 0) ≡ false) → from_stop f ≡ []
+stop_never [] none = refl
+stop_never (b ∷ f) none = let e = none 0 (omega arith) in rw e (stop_never f (λ k h. none (suc k) (omega arith)))
 
-pub no_stop_found : (bytes : List ℕ) (start f end : ℕ) → NoStop bytes start end → end < length bytes → get_or bytes end 0 ≡ end_of f → Ended bytes start f end
-no_stop_found bytes start f end going l e =
-    let d : drop end bytes ≡ end_of f ∷ drop (end + 1) bytes = drop_more bytes end 0 l ∙ ap (λ b. b ∷ drop (end + 1) bytes) e in
-    let s = end_stops f in
-    let h : field (drop end bytes) ≡ [] = ap field d ∙ (rw s refl) in
-    let r : from_stop (drop end bytes) ≡ end_of f ∷ drop (end + 1) bytes = ap from_stop d ∙ (rw s refl) in
-    record {
-      from = going.from;
-      within = l;
-      holds = going.holds ∙ (ap (λ x. take (end - start) (drop start bytes) ++ x) h ∙ append-nil (take (end - start) (drop start bytes)));
-      rest = going.rest ∙ r;
-    }
+-- a field without a stop has no end
+pub no_end : (f : List ℕ) → position stops f ≡ None → from_stop f ≡ []
+no_end f e = stop_never f (λ k h. grind (arith, nat_tests, fails_before_first))
 
-pub no_stop_other : (bytes : List ℕ) (start f end : ℕ) → NoStop bytes start end → end < length bytes → (get_or bytes end 0 ≡ end_of f → ⊥) → stops (get_or bytes end 0) ≡ true → (rest : List ℕ) → from_stop (drop start bytes) ≡ end_of f ∷ rest → ⊥
-no_stop_other bytes start f end going l ne s rest e =
-    let r : from_stop (drop end bytes) ≡ get_or bytes end 0 ∷ drop (end + 1) bytes = ap from_stop (drop_more bytes end 0 l) ∙ (rw s refl) in
-    ne (cc going.rest)
+-- the first stop is where a field ends
+pub end_at : (f : List ℕ) (i : ℕ) → position stops f ≡ Some i → (i < length f) × (field f ≡ take i f) × (from_stop f ≡ get_or f i 0 ∷ drop (i + 1) f)
+end_at f i e =
+    let (l, s, none) = position-Some stops f i 0 e in
+    let (front, rest) = stop_at f i l s none in
+    (l, front, rw add-one rest)
 
-pub no_stop_all : (bytes : List ℕ) (start f end : ℕ) → NoStop bytes start end → length bytes ≤ end → (rest : List ℕ) → from_stop (drop start bytes) ≡ end_of f ∷ rest → ⊥
-no_stop_all bytes start f end going l rest e =
-    let r : from_stop (drop end bytes) ≡ [] = ap from_stop (drop_all end bytes l) in
-    never (cc going.rest)
+-- WHAT A FIELD SAYS
+module _ {V : Type 0} (spells : List ℕ → V → Type 0) (bytes : List ℕ) (f : ℕ) where
+  pub no_field : position stops bytes ≡ None → (e : ℕ) → e ≡ f → FieldRead spells bytes f (Err e)
+  no_field none e is = (is, λ v rest s stop. let z = no_end bytes none in never (cc))
+
+  module _ (i : ℕ) (at : position stops bytes ≡ Some i) where
+    pub other_end : (get_or bytes i 0 ≡ end_of f → ⊥) → FieldRead spells bytes f (Err f)
+    other_end other = let (l, front, rest) = end_at bytes i at in (refl, λ v rest' s stop. other (cc))
+
+    pub no_value : ((v : V) → spells (take i bytes) v → ⊥) → (e : ℕ) → e ≡ f → FieldRead spells bytes f (Err e)
+    no_value none e is = let (l, front, rest) = end_at bytes i at in (is, λ v rest' s stop. none v (subst (λ t. spells t v) front s))
+
+    pub value_read : get_or bytes i 0 ≡ end_of f → (v : V) → spells (take i bytes) v → spells (field bytes) v × (from_stop bytes ≡ end_of f ∷ take (length bytes - (i + 1)) (drop (i + 1) bytes))
+    value_read right v s =
+        let (l, front, rest) = end_at bytes i at in
+        let all : take (length bytes - (i + 1)) (drop (i + 1) bytes) ≡ drop (i + 1) bytes = take_all (length bytes - (i + 1)) (drop (i + 1) bytes) (omega (arith, length-drop (i + 1) bytes)) in
+        (subst (λ t. spells t v) (sym front) s, cc)

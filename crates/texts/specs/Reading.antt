@@ -1,5 +1,6 @@
 -- What the parts of the reader give: the value of a field, a field with its end, a line. Assumes nothing.
-use Rattle.std.specs.Prelude.{◌≡◌, ℕ, ◌+◌, ◌-◌, ◌^◌, ◌<◌, ◌≤◌, List, [], ◌∷◌, ◌++◌, length, take, drop, Some, None, Ok, Err, decimal, Option, Result, ◌≢◌}
+use Rattle.std.specs.Prelude.{◌≡◌, ℕ, ◌^◌, ◌<◌, List, [], ◌∷◌, ◌++◌, Some, None, Ok, Err, decimal, Option, Result, ◌≢◌}
+use Rattle.std.specs.Borrow.{Bor}
 use Rattle.forms.specs.declared.Row.{Row}
 use Rattle.forms.specs.declared.Capability.{Capability}
 use Rattle.forms.specs.Limits.{max_rows, label_count}
@@ -29,33 +30,22 @@ OfNumber f n = (n < max_rows) × (f ≡ decimal n)
 abbrev pub OfBlank : List ℕ → Unit {0} → Type 0
 OfBlank f v = f ≡ []
 
--- the field that begins at the start has its right end at e
-pub record Ended (bytes : List ℕ) (start f e : ℕ) : Type 0 where
-  pub from : start ≤ e
-  pub within : e < length bytes
-  pub holds : field (drop start bytes) ≡ take (e - start) (drop start bytes)
-  pub rest : from_stop (drop start bytes) ≡ end_of f ∷ drop (e + 1) bytes
+-- field f of a line, with which the bytes begin: its value and the bytes behind its end, or its number if it is wrong
+abbrev pub FieldRead : {V : Type 0} → (List ℕ → V → Type 0) → List ℕ → ℕ → Result (V × Bor (List ℕ)) ℕ → Type 0
+FieldRead spells bytes f (Ok p) = spells (field bytes) p.0 × (from_stop bytes ≡ end_of f ∷ p.1.now)
+FieldRead {V} spells bytes f (Err e) = (e ≡ f) × ((v : V) (rest : List ℕ) → spells (field bytes) v → from_stop bytes ≢ end_of f ∷ rest)
 
-abbrev pub EndFound : List ℕ → ℕ → ℕ → Option ℕ → Type 0
-EndFound bytes start f None = (rest : List ℕ) → from_stop (drop start bytes) ≢ end_of f ∷ rest
-EndFound bytes start f (Some e) = Ended bytes start f e
+-- fields 1 to 3 without bytes: the bytes behind them, or the first wrong field of the line
+abbrev pub BlanksRead : List ℕ → Result (Bor (List ℕ)) ℕ → Type 0
+BlanksRead bytes (Ok next) = bytes ≡ 44 ∷ 44 ∷ 10 ∷ next.now
+BlanksRead bytes (Err f) = (k : Kind) (line : List ℕ) → contents k ≡ the_letter k ∷ no_bytes ∷ no_bytes ∷ no_bytes ∷ [] → RightFields k 1 line bytes → FirstWrong f line
 
--- field f of a line: its value and the place behind its end, or its number if it is wrong
-abbrev pub FieldRead : {V : Type 0} → (List ℕ → V → Type 0) → List ℕ → ℕ → ℕ → Result (V × ℕ) ℕ → Type 0
-FieldRead spells bytes start f (Ok p) = spells (field (drop start bytes)) p.0 × (from_stop (drop start bytes) ≡ end_of f ∷ drop p.1 bytes)
-FieldRead {V} spells bytes start f (Err e) = (e ≡ f) × ((v : V) (rest : List ℕ) → spells (field (drop start bytes)) v → from_stop (drop start bytes) ≢ end_of f ∷ rest)
+-- fields 1 to 3 of a row of this kind: the row and the bytes behind its line, or the first wrong field of the line
+abbrev pub FieldsRead : Kind → List ℕ → Result (Row × Bor (List ℕ)) ℕ → Type 0
+FieldsRead k bytes (Ok p) = Proper p.0 × (kind p.0 ≡ k) × (bytes ≡ field_1 p.0 ++ (44 ∷ (field_2 p.0 ++ (44 ∷ (field_3 p.0 ++ (10 ∷ p.1.now))))))
+FieldsRead k bytes (Err f) = (line : List ℕ) → RightFields k 1 line bytes → FirstWrong f line
 
--- fields 1 to 3 without bytes: the place behind them, or the first wrong field of the line
-abbrev pub BlanksRead : List ℕ → ℕ → Result ℕ ℕ → Type 0
-BlanksRead bytes start (Ok next) = drop start bytes ≡ 44 ∷ 44 ∷ 10 ∷ drop next bytes
-BlanksRead bytes start (Err f) = (k : Kind) (line : List ℕ) → contents k ≡ the_letter k ∷ no_bytes ∷ no_bytes ∷ no_bytes ∷ [] → RightFields k 1 line (drop start bytes) → FirstWrong f line
-
--- fields 1 to 3 of a row of this kind: the row and the place behind its line, or the first wrong field of the line
-abbrev pub FieldsRead : Kind → List ℕ → ℕ → Result (Row × ℕ) ℕ → Type 0
-FieldsRead k bytes start (Ok p) = Proper p.0 × (kind p.0 ≡ k) × (drop start bytes ≡ field_1 p.0 ++ (44 ∷ (field_2 p.0 ++ (44 ∷ (field_3 p.0 ++ (10 ∷ drop p.1 bytes))))))
-FieldsRead k bytes start (Err f) = (line : List ℕ) → RightFields k 1 line (drop start bytes) → FirstWrong f line
-
--- a line: its row and the place behind it, or its first wrong field
-abbrev pub LineRead : List ℕ → ℕ → Result (Row × ℕ) ℕ → Type 0
-LineRead bytes start (Ok p) = Proper p.0 × (drop start bytes ≡ spelled_row p.0 ++ drop p.1 bytes)
-LineRead bytes start (Err f) = FirstWrong f (drop start bytes)
+-- a line: its row and the bytes behind it, or its first wrong field
+abbrev pub LineRead : List ℕ → Result (Row × Bor (List ℕ)) ℕ → Type 0
+LineRead bytes (Ok p) = Proper p.0 × (bytes ≡ spelled_row p.0 ++ p.1.now)
+LineRead bytes (Err f) = FirstWrong f bytes

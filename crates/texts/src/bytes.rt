@@ -2,8 +2,9 @@
 ghost use Rattle.std.specs.Prelude.{◌≡◌, ◌<◌};
 ghost use Rattle.forms.specs.Splices.{Wrote};
 ghost use Rattle.texts.specs.Limits.{label_digits};
-ghost use Rattle.texts.specs.RowText.{letter, kind, letter_of_capability, digit_in_hex, hexadecimal, field_1, field_2, field_3, spelled_row};
+ghost use Rattle.texts.specs.RowText.{letter_of_capability, digit_in_hex, hexadecimal, field_1, field_2, field_3, spelled_row};
 
+use super::kinds::Kind;
 use super::values::LABEL_DIGITS;
 use forms::bytes::{put, put_number};
 use forms::{Capability, Row};
@@ -23,27 +24,15 @@ fn put_labels(out: &mut [u8], place: usize, labels: u64) -> usize
     ensures { Wrote out.old out.new place (hexadecimal label_digits labels) result }
 {
     let mut next = place;
-    let mut left = LABEL_DIGITS;
-    while left > 0 {
-        left -= 1;
-        let digit = (labels >> (4 * left)) % 16;
+    for written in 0..LABEL_DIGITS {
+        let behind = LABEL_DIGITS - 1 - written;
+        let digit = (labels >> (4 * behind)) % 16;
         next = put(out, next, hex_digit(digit as u8));
     }
     next
 }
 
-fn kind_letter(row: Row) -> u8
-    ensures { result ≡ letter (kind row) }
-{
-    match row {
-        Row::Void => b'V',
-        Row::Nothing => b'N',
-        Row::Channel(..) => b'C',
-        Row::Element { .. } => b'E',
-        Row::Union(..) => b'U',
-    }
-}
-
+// As it is: an impl of From would stand where Capability is declared, and these letters are those of row text alone.
 fn capability_letter(capability: Capability) -> u8
     ensures { result ≡ letter_of_capability capability }
 {
@@ -89,7 +78,7 @@ fn put_third(out: &mut [u8], place: usize, row: Row) -> usize
 pub(crate) fn put_row(out: &mut [u8], place: usize, row: Row) -> usize
     ensures { Wrote out.old out.new place (spelled_row row) result }
 {
-    let after = put(out, place, kind_letter(row));
+    let after = put(out, place, u8::from(Kind::from(row)));
     let first = put(out, after, b',');
     let behind = put_first(out, first, row);
     let second = put(out, behind, b',');

@@ -1,7 +1,8 @@
 // The fields of a line: where each ends, and its value.
 ghost use Rattle.std.specs.Prelude.{◌≡◌, ℕ, List};
+ghost use Rattle.std.specs.List.{position};
 ghost use Rattle.texts.specs.RowText.{stops, end_of};
-ghost use Rattle.texts.specs.Reading.{Told, EndFound, FieldRead, OfKind, OfCapability, OfLabels, OfNumber, OfBlank};
+ghost use Rattle.texts.specs.Reading.{Told, FieldRead, OfKind, OfCapability, OfLabels, OfNumber, OfBlank};
 
 use super::kinds::Kind;
 use super::values;
@@ -51,7 +52,7 @@ impl Value for () {
     ghost spells = { OfBlank };
 
     fn parse(field: &[u8]) -> Option<()> {
-        if field.len() == 0 { Some(()) } else { None }
+        field.is_empty().then_some(())
     }
 }
 
@@ -68,33 +69,21 @@ fn end_byte(number: usize) -> u8
     if number == 3 { b'\n' } else { b',' }
 }
 
-// Where the field that begins at `start` ends, if it ends as this field of a line must.
-fn find_end(text: &[u8], start: usize, number: usize) -> Option<usize>
-    ensures { EndFound text.now start number result }
+// How long the field is that the text begins with.
+fn length(text: &[u8]) -> Option<usize>
+    ensures { result ≡ position stops text.now }
 {
-    let byte = end_byte(number);
-    let mut end = start;
-    while end < text.len() {
-        if text[end] == byte {
-            return Some(end);
-        }
-        if is_stop(text[end]) {
-            return None;
-        }
-        end += 1;
-    }
-    None
+    text.iter().position(|byte| is_stop(*byte))
 }
 
-// The value of a field of a line and the place behind its end; the field's number if it is wrong.
-pub(crate) fn read<T: Value>(text: &[u8], start: usize, number: usize) -> Result<(T, usize), usize>
-    ensures { FieldRead T.Value.spells text.now start number result }
+// The value of the field that the text begins with, and the text behind its end, which is that of this field of a line; the field's number if it is wrong.
+pub(crate) fn read<T: Value>(text: &[u8], number: usize) -> Result<(T, &[u8]), usize>
+    ensures { FieldRead T.Value.spells text.now number result }
 {
-    match find_end(text, start, number) {
-        Some(end) => match T::parse(&text[start..end]) {
-            Some(value) => Ok((value, end + 1)),
-            None => Err(number),
-        },
-        None => Err(number),
+    let end = length(text).ok_or(number)?;
+    if text[end] != end_byte(number) {
+        return Err(number);
     }
+    let value = T::parse(&text[..end]).ok_or(number)?;
+    Ok((value, &text[end + 1..]))
 }

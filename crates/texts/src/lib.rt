@@ -12,6 +12,7 @@ mod kinds;
 mod lines;
 pub mod reading;
 mod values;
+mod words;
 pub mod writing;
 
 // The most bytes that a row text has.

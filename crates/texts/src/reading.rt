@@ -21,17 +21,16 @@ impl RowText {
             return Err(TextFault::TooLong);
         }
         let mut table = RowBuffer::empty();
-        let mut line = 0;
-        let mut place = 0;
-        while place < text.len() {
+        let mut rest = text;
+        while !rest.is_empty() {
+            let line = table.count();
             if line == MAX_ROWS {
                 return Err(TextFault::TooManyLines);
             }
-            match lines::line(text, place) {
+            match lines::line(rest) {
                 Ok((row, next)) => {
                     table.push(row);
-                    line += 1;
-                    place = next;
+                    rest = next;
                 }
                 Err(field) => return Err(TextFault::WrongLine { line, field }),
             }

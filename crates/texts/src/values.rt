@@ -4,6 +4,7 @@ ghost use Rattle.texts.specs.RowText.{letter, letter_of_capability, digit_in_hex
 ghost use Rattle.texts.specs.Reading.{Told, OfKind, OfCapability, OfLabels, OfNumber};
 
 use super::kinds::Kind;
+use forms::bytes::digit;
 use forms::{Capability, MAX_ROWS};
 
 // How many hexadecimal digits a label set has.
@@ -13,22 +14,8 @@ pub(crate) const LABEL_DIGITS: usize = 16;
 fn single(field: &[u8]) -> Option<u8>
     ensures { Told (λ b. field.now ≡ b ∷ []) result }
 {
-    if field.len() == 1 {
-        Some(field[0])
-    } else {
-        None
-    }
-}
-
-fn kind_letter(byte: u8) -> Option<Kind>
-    ensures { Told (λ k. byte ≡ letter k) result }
-{
-    match byte {
-        b'V' => Some(Kind::Void),
-        b'N' => Some(Kind::Nothing),
-        b'C' => Some(Kind::Channel),
-        b'E' => Some(Kind::Element),
-        b'U' => Some(Kind::Union),
+    match field {
+        [byte] => Some(*byte),
         _ => None,
     }
 }
@@ -36,9 +23,10 @@ fn kind_letter(byte: u8) -> Option<Kind>
 pub(crate) fn kind(field: &[u8]) -> Option<Kind>
     ensures { Told (OfKind field.now) result }
 {
-    kind_letter(single(field)?)
+    Kind::try_from(single(field)?).ok()
 }
 
+// As it is: an impl of TryFrom would stand where Capability is declared, and these letters are those of row text alone.
 fn capability_letter(byte: u8) -> Option<Capability>
     ensures { Told (λ c. byte ≡ letter_of_capability c) result }
 {
@@ -56,24 +44,15 @@ pub(crate) fn capability(field: &[u8]) -> Option<Capability>
     capability_letter(single(field)?)
 }
 
-fn digit(byte: u8) -> Option<u8>
-    ensures { Told (λ d. (d < 10) × (byte ≡ 48 + d)) result }
-{
-    match byte {
-        b'0'..=b'9' => Some(byte - b'0'),
-        _ => None,
-    }
-}
-
 // A row number: one digit, or two of which the first is not 0.
 pub(crate) fn number(field: &[u8]) -> Option<u8>
     ensures { Told (OfNumber field.now) result }
 {
-    match field.len() {
-        1 => digit(field[0]),
-        2 => {
-            let tens = digit(field[0])?;
-            let ones = digit(field[1])?;
+    match field {
+        [ones] => digit(*ones),
+        [tens, ones] => {
+            let tens = digit(*tens)?;
+            let ones = digit(*ones)?;
             let value = tens * 10 + ones;
             if tens > 0 && (value as usize) < MAX_ROWS {
                 Some(value)
@@ -89,9 +68,8 @@ fn hex_value(byte: u8) -> Option<u8>
     ensures { Told (λ d. (d < 16) × (byte ≡ digit_in_hex d)) result }
 {
     match byte {
-        b'0'..=b'9' => Some(byte - b'0'),
         b'a'..=b'f' => Some(byte - b'a' + 10),
-        _ => None,
+        _ => digit(byte),
     }
 }
 

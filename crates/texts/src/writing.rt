@@ -24,8 +24,7 @@ fn spellable(row: Row) -> bool
     ensures { Decides result (NumbersBelow max_rows row) }
 {
     match row {
-        Row::Void => true,
-        Row::Nothing => true,
+        Row::Void | Row::Nothing => true,
         Row::Channel(_, payload) => in_range(payload),
         Row::Element {
             inside,
@@ -42,8 +41,7 @@ fn line_length(row: Row) -> usize
     ensures few { result ≤ 27 }
 {
     match row {
-        Row::Void => 5,
-        Row::Nothing => 5,
+        Row::Void | Row::Nothing => 5,
         Row::Channel(_, payload) => 6 + digits(payload),
         Row::Element {
             inside,

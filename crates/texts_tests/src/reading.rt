@@ -212,3 +212,24 @@ fn taken_for_no_rows(rt: HostRuntime) {
             && RowText::new(b"V,,,\nU,,0,64\n").count() == 0
     );
 }
+
+#[test]
+fn words(rt: HostRuntime) -> Result<(), Fail> {
+    let alloc = rt.alloc();
+    let long = format!(in alloc; "{}", TextFault::TooLong)?;
+    assert_eq!(rt;
+        long.as_str(),
+        "the text is refused (1): it has more than 1,600 bytes"
+    );
+    let wrong = format!(in alloc; "{}", TextFault::WrongLine { line: 7, field: 0 })?;
+    assert_eq!(rt;
+        wrong.as_str(),
+        "the text is refused (2): line 7 is wrong at field 0, the kind: V, N, C, E or U is asked for (lines and fields are counted from 0)"
+    );
+    let many = format!(in alloc; "{}", TextFault::TooManyLines)?;
+    assert_eq!(rt;
+        many.as_str(),
+        "the text is refused (3): it has more than 64 lines"
+    );
+    Ok(())
+}

@@ -159,3 +159,19 @@ fn longest(rt: HostRuntime) -> Result<(), Fail> {
 fn numbers(rt: HostRuntime) {
     assert!(rt; RowsFault::NumberOver { row: 7 }.number() == 4 && RowsFault::NoRoom.number() == 5);
 }
+
+#[test]
+fn words(rt: HostRuntime) -> Result<(), Fail> {
+    let alloc = rt.alloc();
+    let over = format!(in alloc; "{}", RowsFault::NumberOver { row: 7 })?;
+    assert_eq!(rt;
+        over.as_str(),
+        "it cannot be written (4): row 7 has a number above 63, since it pointed past its own table"
+    );
+    let room = format!(in alloc; "{}", RowsFault::NoRoom)?;
+    assert_eq!(rt;
+        room.as_str(),
+        "it cannot be written (5): the text is longer than the buffer"
+    );
+    Ok(())
+}

@@ -9,39 +9,6 @@ ghost use Rattle.forms.specs.Buffers.{rows_of, pushed};
 use super::super::{FormSource, MAX_ROWS, Row};
 use super::RowBuffer;
 
-// The row itself: a row in memory has numbers of 8 bits and a label set of 64.
-fn fitting(row: Row) -> Row
-    ensures same { result ≡ row }
-    ensures fit { fits result ≡ true }
-{
-    match row {
-        Row::Void => Row::Void,
-        Row::Nothing => Row::Nothing,
-        Row::Channel(capability, payload) => Row::Channel(capability, payload),
-        Row::Element {
-            labels,
-            inside,
-            following,
-        } => Row::Element {
-            labels,
-            inside,
-            following,
-        },
-        Row::Union(left, right) => Row::Union(left, right),
-    }
-}
-
-// The row with that number, or none.
-fn row_of(rows: &[Row], number: u8) -> Option<Row>
-    ensures { result ≡ slice_get rows.now number }
-{
-    if (number as usize) < rows.len() {
-        Some(rows[number as usize])
-    } else {
-        None
-    }
-}
-
 impl RowBuffer {
     // No rows.
     pub fn empty() -> RowBuffer
@@ -61,7 +28,7 @@ impl RowBuffer {
         if self.count >= MAX_ROWS {
             return false;
         }
-        self.table[self.count] = fitting(row);
+        self.table[self.count] = row;
         self.count += 1;
         true
     }
@@ -80,6 +47,7 @@ impl RowBuffer {
     }
 
     // The rows of any source.
+    // As it is: a source answers by number alone, so a chain would be `filter_map` over the same range with the same call in it.
     pub fn of<S: FormSource>(source: &S) -> RowBuffer
         ensures { rows_of result ≡ S.FormSource.rows source.now }
     {
@@ -110,6 +78,6 @@ impl FormSource for RowBuffer {
     }
 
     fn row(&self, number: u8) -> Option<Row> {
-        row_of(self.rows(), number)
+        self.rows().get(number as usize).copied()
     }
 }

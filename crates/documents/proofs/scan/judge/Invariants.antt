@@ -1,5 +1,5 @@
 use Rattle.documents.proofs.Judging.{Scanned}
 use Rattle.documents.proofs.scan.judge.Given as goal
 
-abbrev pub invariant-loop-i : goal.invariant-loop-i
-invariant-loop-i l = Scanned l.text l.i l.level l.phase l.nodes
+abbrev pub invariant-loop-place : goal.invariant-loop-place
+invariant-loop-place l = Scanned l.text l.place l.level l.phase l.nodes

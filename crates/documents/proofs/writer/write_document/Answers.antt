@@ -1,4 +1,7 @@
-use Rattle.std.proofs.Common.{refl}
+use Rattle.std.proofs.Common.{◌≡◌, Some, None, refl, arith}
+use Rattle.std.proofs.lemmas.Grind.{common_steps}
+use Rattle.std.proofs.lemmas.Result.{err_from_is_err_and}
+use Rattle.documents.specs.declared.faults.WriteFault.TheVariants.{TooLong}
 use Rattle.documents.specs.Writing.WritesDocument.{is_many, is_unsound}
 use Rattle.documents.proofs.Writing.{writing_documents_is_one}
 use Rattle.documents.proofs.Outcomes.{write_outside, write_long, write_done}
@@ -17,15 +20,20 @@ returns-then-root-nodes c = record {
   one = writing_documents_is_one;
 }
 
-pub returns-in-Some-measure : goal.returns-in-Some-measure
-returns-in-Some-measure c =
+pub returns : goal.returns
+returns c =
+    let room : c.measure.result ≡ Some c.in_ok-ok_or.field-0 = grind (arith, common_steps) in
     let (written, back) = write_done c.args.nodes.now c.args.root c.args.buffer.now c.if-nodes-gt-MAX_NODES.false c.in_default.ensures c.if-root-nodes.false c.min.result c.min.ensures
-    c.in-Some-measure.field-0 c.write.result c.write.new.out c.in-Some-measure.ensures c.write.ensures in
+    c.in_ok-ok_or.field-0 c.write.result c.write.new.out (rw room at c.measure.ensures) c.write.ensures in
     record { written = written; back = back; one = writing_documents_is_one }
 
-pub returns-in-None : goal.returns-in-None
-returns-in-None c = record {
-  written = write_long c.args.nodes.now c.args.root c.args.buffer.now c.if-nodes-gt-MAX_NODES.false c.in_default.ensures c.if-root-nodes.false c.min.result c.min.ensures c.in-None.ensures;
-  back = tt;
-  one = writing_documents_is_one;
-}
+pub returns-in_err-ok_or : goal.returns-in_err-ok_or
+returns-in_err-ok_or c =
+    let p = err_from_is_err_and c.from_residual.result c.from_residual.ensures.1 in
+    let none : c.measure.result ≡ None = grind (arith, common_steps) in
+    let is : c.in_err-ok_or.field-0.0 ≡ TooLong = grind (arith, common_steps) in
+    rw (p.1, p.2, is) (record {
+      written = write_long c.args.nodes.now c.args.root c.args.buffer.now c.if-nodes-gt-MAX_NODES.false c.in_default.ensures c.if-root-nodes.false c.min.result c.min.ensures (rw none at c.measure.ensures);
+      back = tt;
+      one = writing_documents_is_one;
+    })

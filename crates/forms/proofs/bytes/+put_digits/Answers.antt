@@ -1,11 +1,8 @@
 use Rattle.std.proofs.Common.{◌+◌, ◌/◌, ◌%◌, [], ◌∷◌, decimal, sym, subst, arith}
-use Rattle.std.proofs.lemmas.Fmt.{decimal_digit, decimal_step}
+use Rattle.std.proofs.lemmas.Fmt.{decimal_step}
 use Rattle.forms.specs.Splices.{Wrote}
 use Rattle.forms.proofs.Splices.{wrote_both}
 use Rattle.forms.proofs.bytes.+put_digits.Goals as goal
-
-pub returns-then-number-lt10 : goal.returns-then-number-lt10
-returns-then-number-lt10 t c = subst (λ s. Wrote c.args.out.now c.put.new.out c.args.place s c.put.result) (sym (decimal_digit c.args.number c.if-number-lt10.true)) c.put.ensures.0
 
 pub returns : goal.returns
 returns t c =

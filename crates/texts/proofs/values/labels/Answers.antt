@@ -1,5 +1,5 @@
 use Rattle.std.proofs.Common.{arith}
-use Rattle.texts.proofs.Digits.{so_far_none, so_far_more, so_far_fits, so_far_all, labels_long, labels_digit}
+use Rattle.texts.proofs.Digits.{so_far_none, so_far_more, so_far_fits, labels_long, labels_digit}
 use Rattle.texts.proofs.values.labels.Goals as goal
 
 pub returns-then-field-ne-LABEL_DIGITS : goal.returns-then-field-ne-LABEL_DIGITS
@@ -19,6 +19,3 @@ overflow_add-value c = let h = so_far_fits c.args.field.now c.loop-byte.byte-ind
 
 pub loop-byte-preserved : goal.loop-byte-preserved
 loop-byte-preserved c = let (h, e) = c.in_ok-digit.ensures in so_far_more c.args.field.now c.loop-byte.byte-index c.loop-byte.value c.in_ok-digit.digit (omega arith) c.loop-byte.invariant h e
-
-pub returns : goal.returns
-returns c = so_far_all c.args.field.now c.loop-byte.byte-index c.loop-byte.value c.if-field-ne-LABEL_DIGITS.false (omega arith) c.loop-byte.invariant

@@ -1,14 +1,7 @@
 use Rattle.std.proofs.Common.{get_or, refl}
-use Rattle.std.proofs.lemmas.Bool.Decides.{not_from_Decides}
 use Rattle.forms.specs.declared.Row.TheVariants.{Void}
-use Rattle.texts.proofs.Measures.{measured_none, measured_more, measured_over, measured_all}
+use Rattle.texts.proofs.Measures.{measured_more, measured_all}
 use Rattle.texts.proofs.writing.measure.Goals as goal
-
-pub loop-number-init : goal.loop-number-init
-loop-number-init c = measured_none c.args.rows.now
-
-pub returns-then-not-spellable : goal.returns-then-not-spellable
-returns-then-not-spellable c = (c.loop-number.number, refl, measured_over c.args.rows.now c.loop-number.number c.loop-number.total (get_or c.args.rows.now c.loop-number.number Void) c.loop-number-test.true refl c.loop-number.invariant (not_from_Decides c.spellable.result c.spellable.ensures c.if-not-spellable.true))
 
 pub loop-number-preserved : goal.loop-number-preserved
 loop-number-preserved c =

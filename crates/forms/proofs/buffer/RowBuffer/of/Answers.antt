@@ -1,5 +1,4 @@
-use Rattle.std.proofs.Common.{◌<◌, length, get_or, ◌∙◌, arith}
-use Rattle.std.proofs.lemmas.List.{take_all}
+use Rattle.std.proofs.Common.{◌<◌, length, get_or, arith}
 use Rattle.forms.specs.declared.Row.TheVariants.{Void}
 use Rattle.forms.proofs.Buffers.{buffer_copied_more}
 use Rattle.forms.proofs.Sides.{some_nth, row_there}
@@ -15,6 +14,3 @@ loop-number-preserved g c =
       | in-Some w ↦ buffer_copied_more rows k w.in-Some.row c.loop-number.buffer w.push.new.self _ lt (g.S.FormSource.lawful c.args.source.now).few c.loop-number.invariant (some_nth rows k w.in-Some.row w.in-Some.ensures).1 w.push.ensures.now w.buffer-is
       | in_default w ↦ absurd (w.in_default.not-Some (get_or rows k Void) (row_there rows k c.row.result lt c.row.ensures))
     ]
-
-pub returns : goal.returns
-returns g c = c.loop-number.invariant ∙ take_all c.loop-number.number (g.S.FormSource.rows c.args.source.now) (omega (arith, c.count-number-end.ensures))
