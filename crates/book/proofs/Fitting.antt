@@ -1,5 +1,5 @@
 -- What an open book does at a fit. Assumes nothing.
-use Rattle.std.proofs.Common.{◌≡◌, ℕ, ◌<◌, Bool, List, length, Decides, refl, subst, inl, ⊎_elim}
+use Rattle.std.proofs.Common.{◌≡◌, ℕ, ◌<◌, Bool, List, length, Decides, refl, subst, inl, ⊎_elim, IsOk, Ok, Err, Result, MatchResult}
 use Rattle.forms.specs.Buffers.{rows_of}
 use Rattle.forms.specs.Refusals.{Refusal, Outcome}
 use Rattle.forms.specs.Refusals.Outcome.{refuses, gives}
@@ -11,8 +11,10 @@ use Rattle.schema.specs.Rules.Leans.{on_itself}
 use Rattle.schema.proofs.Findings.{never}
 use Rattle.schema.proofs.Offered.{at_below}
 use Rattle.verdicts.specs.Pairs.{related, Leaned}
+use Rattle.fitting.specs.Faults.{fit_refusal}
 use Rattle.fitting.specs.Fittable.{Fittable, Unfit}
 use Rattle.fitting.specs.Marks.{Referred, Among, Marked, TellsRoot}
+use Rattle.fitting.specs.declared.faults.FitFault.{FitFault}
 use Rattle.fitting.proofs.Fitted.{fits_by_below}
 use Rattle.fitting.proofs.Refusing.{fittable_or_one_fault}
 use Rattle.book.specs.Answers.{Adds}
@@ -29,6 +31,11 @@ use Rattle.book.proofs.Telling.{nothing_done}
 module _ (rows : List Row) (nodes : List Node) (root marks : ℕ) where
   pub fit_or_fault : Fittable rows nodes root marks → (e : Refusal) → Unfit rows nodes root marks e → ⊥
   fit_or_fault fits e unfit = ⊎_elim (λ (_, none). none e unfit) (λ (not, _). not fits) (fittable_or_one_fault rows nodes root marks)
+
+  -- so marking the nodes of one that can be fitted succeeds
+  pub is_fitted : (r : Result Bool FitFault) → Fittable rows nodes root marks → MatchResult r (λ _. Fittable rows nodes root marks) (λ e. Unfit rows nodes root marks (fit_refusal e)) → IsOk r
+  is_fitted (Ok b) fits h = refl
+  is_fitted (Err e) fits h = absurd (fit_or_fault fits (fit_refusal e) h)
 
   one_fault : (e f : Refusal) → Unfit rows nodes root marks e → Unfit rows nodes root marks f → e ≡ f
   one_fault e f x y = ⊎_elim (λ (_, none). absurd (none e x)) (λ (_, (g, _, same)). let a = same e x in let b = same f y in cc) (fittable_or_one_fault rows nodes root marks)

@@ -8,7 +8,8 @@ pub mod Offering
 pub mod Fitting
 pub mod Witnessing
 pub mod Taking
-pub mod Blank
+pub mod Meeting
+pub mod Mapping
 pub mod Same
 pub mod Worked
 pub mod Runs

@@ -1,8 +1,8 @@
 -- What one book holds as yes is taken by another over equal rows. Assumes nothing.
-use Rattle.std.proofs.Common.{◌≡◌, ℕ, true, List, length, Some, None, Option, sym, ap, ◌∙◌, subst, inl}
+use Rattle.std.proofs.Common.{◌≡◌, ℕ, true, List, length, Ok, Err, sym, ◌∙◌, subst, inl}
 use Rattle.sets.specs.Sets.{member}
 use Rattle.forms.specs.Refusals.{Outcome}
-use Rattle.forms.specs.Refusals.Outcome.{refuses, gives}
+use Rattle.forms.specs.Refusals.Outcome.{gives}
 use Rattle.forms.specs.declared.Row.{Row}
 use Rattle.relation.specs.Admission.{Admitted}
 use Rattle.relation.specs.Faults.{admission_refusal}
@@ -16,13 +16,9 @@ use Rattle.book.specs.Calls.Answer.{offered}
 use Rattle.book.specs.Calls.Call.{offer}
 use Rattle.book.specs.Carrying.{Over, Told, Carried, TakenOver}
 use Rattle.book.specs.Doing.{Done}
-use Rattle.book.specs.Ledgers.{ledger_rows, Holds}
+use Rattle.book.specs.Ledgers.{Pages, ledger_rows, Holds, HoldsIn}
 use Rattle.book.specs.Relations.{Consistent}
 use Rattle.book.specs.declared.ledger.Ledger.{Ledger}
-
--- a book that is over admitted rows is open
-pub not_shut : (rows : List Row) (fault : AdmissionFault) (l : Ledger) → Over rows (Some fault) l → Admitted rows → ⊥
-not_shut rows fault l finds admitted = no_fault rows admitted (admission_refusal fault) finds
 
 -- two open books whose tables are equal
 open_taken : (l m m' : Ledger) (words : List ℕ) (o : Outcome ℕ) → ledger_rows l ≡ ledger_rows m → Told l words → Done m (offer words) (offered o) m' →
@@ -39,12 +35,14 @@ open_taken l m m' words o same told done =
     inside : (p q : ℕ) → HeldAsYes (ledger_rows l) (Holds l) p q → InTable (ledger_rows l) p q
     inside p q (h, _) = let (p<, q<, _) = between_parts (length (ledger_rows l)) (member l.held) p q h in (p<, q<)
 
-pub same_refusal : {f g : AdmissionFault} → f ≡ g → ◌≡◌ {A = Outcome ℕ} (refuses (admission_refusal f)) (refuses (admission_refusal g))
-same_refusal e = ap (λ f. refuses (admission_refusal f)) e
+-- a book that is over admitted rows is open
+pub shut_over : (rows : List Row) (pages : Pages) (fault : AdmissionFault) → pages ≡ Err fault → Over rows pages → Admitted rows → ⊥
+shut_over rows pages fault is over admitted = no_fault rows admitted (admission_refusal fault) (subst (λ p. Over rows p) is over)
 
-pub taken_over : (rows others : List Row) (fault fault₂ fault' : Option AdmissionFault) (l m m' : Ledger) (o : Outcome ℕ) → fault ≡ None → Carried l fault₂ m o fault' m' → TakenOver rows others fault l fault₂ m o m'
-taken_over rows others (Some f) fault₂ fault' l m m' o none carried equal over over₂ admitted = never (cc)
-taken_over rows others None (Some g) fault' l m m' o none carried equal over over₂ admitted = absurd (not_shut others g m over₂ (subst Admitted equal admitted))
-taken_over rows others None None fault' l m m' o none (words, told, (done, _)) equal (_, is) (_, is₂) admitted =
-    let (new, e, holds) = open_taken l m m' words o (is ∙ equal ∙ sym is₂) told done in
-    (new, e, λ p q yes. holds p q (subst (λ r. HeldAsYes r (Holds l) p q) (sym is) yes))
+pub taken_over : (rows others : List Row) (from before after : Pages) (l : Ledger) (o : Outcome ℕ) → from ≡ Ok l → Carried l before o after → TakenOver rows others from before o after
+taken_over rows others (Err f) before after l o is carried equal over over₂ admitted = never (cc)
+taken_over rows others (Ok k) (Err g) after l o is carried equal over over₂ admitted = absurd (no_fault others (subst Admitted equal admitted) (admission_refusal g) over₂)
+taken_over rows others (Ok k) (Ok m) after l o is (words, told, (m', done, then)) equal (_, is₁) (_, is₂) admitted =
+    let same : l ≡ k = cc in
+    let (new, e, holds) = open_taken k m m' words o (is₁ ∙ equal ∙ sym is₂) (subst (λ x. Told x words) same told) done in
+    (new, e, λ p q yes. subst (λ x. HoldsIn x p q) (sym then) (holds p q (subst (λ r. HeldAsYes r (Holds k) p q) (sym is₁) yes)))

@@ -1,5 +1,5 @@
 -- What an open book tells without a change. Assumes nothing.
-use Rattle.std.proofs.Common.{◌≡◌, ℕ, ◌+◌, ◌-◌, ◌*◌, ◌/◌, ◌%◌, ◌<◌, ◌≤◌, true, cond, ◌&&◌, ltb, List, length, get_or, take, Some, Decides, sym, refl, ap, ◌∙◌, inr, ⊎_elim, arith, length-take, get_or-take}
+use Rattle.std.proofs.Common.{◌≡◌, ℕ, ◌+◌, ◌*◌, ◌/◌, ◌%◌, ◌<◌, ◌≤◌, true, cond, ◌&&◌, ltb, List, length, take, Some, Decides, sym, refl, ap, ◌∙◌, subst, inr, ⊎_elim, arith, length-take, get_or-take}
 use Rattle.std.proofs.lemmas.Nat.{mul-le}
 use Rattle.std.proofs.lemmas.Bool.{cases_Bool, cases_lt, cond-true, cond-false}
 use Rattle.sets.specs.Sets.{member, tally, word, bit}
@@ -68,51 +68,57 @@ module _ (l : Ledger) where
   pub counted_held : (r : ℕ) → r ≡ tally (member l.held) (word * length l.held) → Done l held (counted (gives r)) l
   counted_held r e = nothing_done l held (counted (gives r)) tt (λ a b x. x) (r, refl, set_counts n some few l.held (kept_of l).held_set r e)
 
-  -- numbers that hold what is yes
-  module _ (after : List ℕ) (long : length after ≡ words_for (length (ledger_rows l))) (copied : (i : ℕ) → i < length after → get_or after i 0 ≡ get_or l.yes i 0) where
-    square : n * n ≤ max_rows * max_rows
-    square = mul-le n n max_rows max_rows few few
+  -- the first numbers of those that hold what is yes
+  module _ (k : ℕ) (is : k ≡ words_for (length (ledger_rows l))) (low : k ≤ max_rows * max_rows / word) where
+    abbrev told : List ℕ
+    told = take k l.yes
 
-    members : (k : ℕ) → member after k ≡ member l.yes k
-    members k = ⊎_elim
-        (λ low. let s = square in let small = copied (k / word) (omega arith) in
-        member_at after (k / word) (k % word) k (omega arith) (omega arith) (omega arith) ∙ ap (λ w. bit w (k % word)) small ∙ sym (member_at l.yes (k / word) (k % word) k (omega arith) (omega arith) (omega arith)))
-        (λ high. member_past after k high ∙ sym ((kept_of l).yes_set.clear k (omega arith)))
-        (cases_lt k (word * length after))
+    long : length told ≡ k
+    long = let r = (kept_of l).yes_set.room in let h = length-take k l.yes in omega arith
 
-    relates : (a b : ℕ) → related n after a b ≡ related n l.yes a b
+    members : (j : ℕ) → member told j ≡ member l.yes j
+    members j =
+        let e = long in
+        let s = mul-le n n max_rows max_rows few few in
+        ⊎_elim
+        (λ here.
+        member_at told (j / word) (j % word) j (omega arith) (omega arith) (omega arith) ∙ ap (λ w. bit w (j % word)) (get_or-take k l.yes (j / word) 0 (omega arith)) ∙ sym (member_at l.yes (j / word) (j % word) j (omega arith) (omega arith) (omega arith)))
+        (λ past. member_past told j past ∙ sym ((kept_of l).yes_set.clear j (omega arith)))
+        (cases_lt j (word * length told))
+
+    relates : (a b : ℕ) → related n told a b ≡ related n l.yes a b
     relates a b = ap (λ x. ltb a n && (ltb b n && x)) (members (a * n + b))
 
-    to : Part (related n after) (related n l.yes)
+    to : Part (related n told) (related n l.yes)
     to a b h = sym (relates a b) ∙ h
 
-    from : Part (related n l.yes) (related n after)
+    from : Part (related n l.yes) (related n told)
     from a b h = relates a b ∙ h
 
-    pub yes_handed : (p q : ℕ) → Decides (related (length (ledger_rows l)) after p q) (InTable (ledger_rows l) p q × HeldAsYes (ledger_rows l) (Holds l) p q)
-    yes_handed p q = (
-      λ h.
-          let yes-now = to p q h in
-          let on = (kept_of l).yes_held p q yes-now in
-          let (p<, q<, _) = between_parts n (member after) p q h in
-          ((p<, q<), (on, ((kept_of l).tells p q on).0 yes-now)),
-      λ (_, (on, below)). from p q (((kept_of l).tells p q on).1 below),
-    )
-
-    pub yes_consistent : Consistent (ledger_rows l) after
-    yes_consistent = record {
-      shaped = record { long = long; clear = λ k h. members k ∙ (kept_of l).yes_set.clear k h };
-      closed = λ p q h. keeps_more from ((kept_of l).closed p q (to p q h));
+    pub yes_told : Told l (take k l.yes)
+    yes_told = record {
+      consistent = record {
+        shaped = record { long = long ∙ is; clear = λ j h. members j ∙ (kept_of l).yes_set.clear j h };
+        closed = λ p q h. keeps_more from ((kept_of l).closed p q (to p q h));
+      };
+      handed = λ p q. (
+        λ h.
+            let yes-now = to p q h in
+            let on = (kept_of l).yes_held p q yes-now in
+            let (p<, q<, _) = between_parts n (member told) p q h in
+            ((p<, q<), (on, ((kept_of l).tells p q on).0 yes-now)),
+        λ (_, (on, below)). from p q (((kept_of l).tells p q on).1 below),
+      );
     }
 
-  pub handed_over : (buffer after : List ℕ) → length buffer ≡ words_for (length (ledger_rows l)) → length after ≡ length buffer → ((i : ℕ) → i < length buffer → get_or after i 0 ≡ get_or l.yes i 0) →
-      (r : ℕ) → r ≡ tally (member l.yes) (word * length l.yes) → Done l (hands_out buffer) (handed_out (gives r) after) l
-  handed_over buffer after long same copied r e = nothing_done l (hands_out buffer) (handed_out (gives r) after) tt (λ a b x. x) (
+  pub handed_over : (buffer words after : List ℕ) → Told l words → length buffer ≡ length words → after ≡ words → (r : ℕ) → r ≡ tally (member l.yes) (word * length l.yes) →
+      Done l (hands_out buffer) (handed_out (gives r) after) l
+  handed_over buffer words after told same copied r e = nothing_done l (hands_out buffer) (handed_out (gives r) after) tt (λ a b x. x) (
     gives r,
     after,
     refl,
     record {
-      other_length = λ other. absurd (other long);
+      other_length = λ other. absurd (other (same ∙ told.consistent.shaped.long));
       many = λ _. (
         r,
         refl,
@@ -121,15 +127,7 @@ module _ (l : Ledger) where
             (λ a b (on, below). ((kept_of l).tells a b on).1 below)
             (set_counts n some few l.yes (kept_of l).yes_set r e),
       );
-      handed = λ _. yes_handed after (same ∙ long) (λ i h. copied i (omega arith));
-      consistent = λ _. yes_consistent after (same ∙ long) (λ i h. copied i (omega arith));
+      handed = λ _. subst (λ x. (p q : ℕ) → Decides (related (length (ledger_rows l)) x p q) (InTable (ledger_rows l) p q × HeldAsYes (ledger_rows l) (Holds l) p q)) (sym copied) told.handed;
+      consistent = λ _. subst (Consistent (ledger_rows l)) (sym copied) told.consistent;
     },
   )
-
-  -- the first numbers of those that hold what is yes
-  pub yes_told : (k : ℕ) → k ≡ words_for (length (ledger_rows l)) → k ≤ max_rows * max_rows / word → Told l (take (k - 0) l.yes)
-  yes_told k is low =
-      let r = (kept_of l).yes_set.room in
-      let long : length (take (k - 0) l.yes) ≡ words_for (length (ledger_rows l)) = let h = length-take (k - 0) l.yes in omega arith in
-      let copied : (i : ℕ) → i < length (take (k - 0) l.yes) → get_or (take (k - 0) l.yes) i 0 ≡ get_or l.yes i 0 = λ i h. get_or-take (k - 0) l.yes i 0 (let e = length-take (k - 0) l.yes in omega arith) in
-      record { consistent = yes_consistent (take (k - 0) l.yes) long copied; handed = yes_handed (take (k - 0) l.yes) long copied }

@@ -1,10 +1,12 @@
 -- What an open book does at a show. Assumes nothing.
-use Rattle.std.proofs.Common.{◌≡◌, ℕ, ◌+◌, ◌*◌, ◌<◌, true, false, List, length, sym, refl, arith}
+use Rattle.std.proofs.Common.{◌≡◌, ℕ, ◌+◌, ◌*◌, ◌<◌, true, false, List, length, Some, None, Option, IsSome, sym, refl, arith}
 use Rattle.std.proofs.lemmas.Bool.{both_ways}
 use Rattle.forms.specs.Refusals.Outcome.{refuses}
+use Rattle.forms.specs.declared.Row.{Row}
 use Rattle.documents.specs.declared.nodes.Node.{Node}
 use Rattle.schema.specs.Rules.{Below}
 use Rattle.verdicts.specs.Pairs.{related}
+use Rattle.showing.specs.Showing.{Showable, Shown}
 use Rattle.book.specs.Calls.Answer.{shown}
 use Rattle.book.specs.Calls.Call.{show}
 use Rattle.book.specs.Doing.{Done}
@@ -14,6 +16,11 @@ use Rattle.book.specs.declared.ledger.Ledger.{Ledger}
 use Rattle.book.specs.declared.types.BookFault.TheVariants.{NotHeldAsNo, FewNodes}
 use Rattle.book.proofs.Facts.{kept_of}
 use Rattle.book.proofs.Telling.{nothing_done}
+
+-- what can be shown is shown
+pub is_shown : (rows : List Row) (p q : ℕ) (before after : List Node) (r : Option ℕ) → Showable rows p q (length before) → Shown rows p q before after r → IsSome r
+is_shown rows p q before after (Some k) can held = refl
+is_shown rows p q before after None can (not, _) = absurd (not can)
 
 module _ (l : Ledger) (p q : ℕ) (buffer : List Node) (p< : p < length (ledger_rows l)) (q< : q < length (ledger_rows l)) where
   -- a pair that is yes is not held as no

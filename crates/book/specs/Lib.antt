@@ -6,6 +6,7 @@ pub mod Calls
 pub mod Answers
 pub mod Doing
 pub mod Books
+pub mod Lending
 pub mod Runs
 pub mod Carrying
 pub mod Worked

@@ -1,10 +1,11 @@
 // Carrying what one book holds as yes over to another.
-ghost use Rattle.std.specs.Prelude.{◌≡◌, Some, None};
+ghost use Rattle.std.specs.Prelude.{◌≡◌, Ok, Err};
 ghost use Rattle.forms.specs.Refusals.Outcome.{refuses};
 ghost use Rattle.relation.specs.Faults.{admission_refusal};
 ghost use Rattle.relation.specs.declared.AdmissionFault.{AdmissionFault as Fault};
 ghost use Rattle.book.specs.Carrying.{Carried, TakenOver};
 ghost use Rattle.book.specs.Faults.{outcome};
+ghost use Rattle.book.specs.declared.ledger.Ledger.{Ledger};
 
 use super::Book;
 use super::types::BookFault;
@@ -16,12 +17,9 @@ pub fn carry<A: FormSource, B: FormSource>(
     to: &mut Book<B>,
 ) -> Result<usize, BookFault>
     ensures source { to.new.source ≡ to.old.source }
-    ensures shut { (fault : Fault) → from.now.fault ≡ Some fault → (outcome result ≡ refuses (admission_refusal fault)) × (to.new ≡ to.old) }
-    ensures carried { from.now.fault ≡ None → Carried from.now.ledger to.old.fault to.old.ledger (outcome result) to.new.fault to.new.ledger }
-    ensures equal { TakenOver (A.FormSource.rows from.now.source) (B.FormSource.rows to.old.source) from.now.fault from.now.ledger to.old.fault to.old.ledger (outcome result) to.new.ledger }
+    ensures shut { (fault : Fault) → from.now.pages ≡ Err fault → (outcome result ≡ refuses (admission_refusal fault)) × (to.new ≡ to.old) }
+    ensures carried { (l : Ledger) → from.now.pages ≡ Ok l → Carried l to.old.pages (outcome result) to.new.pages }
+    ensures equal { TakenOver (A.FormSource.rows from.now.source) (B.FormSource.rows to.old.source) from.now.pages to.old.pages (outcome result) to.new.pages }
 {
-    if let Some(fault) = from.fault {
-        return Err(BookFault::NotAdmitted(fault));
-    }
-    to.offer(from.ledger.told())
+    to.offer(from.open()?.told())
 }

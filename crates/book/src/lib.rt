@@ -10,10 +10,9 @@ use forms::FormSource;
 use ledger::Ledger;
 use relation::AdmissionFault;
 
-// A source, and the verdicts on pairs of its rows that are held. If there is a fault the book is shut, and no call reads the ledger.
+// A source, and the verdicts on pairs of its rows that are held; or, of a table that is not admitted, why not: the book is shut then.
 #[derive(Drop)]
 pub struct Book<S: FormSource> {
     source: S,
-    fault: Option<AdmissionFault>,
-    ledger: Ledger,
+    pages: Result<Ledger, AdmissionFault>,
 }

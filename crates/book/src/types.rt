@@ -1,9 +1,10 @@
 // What a book answers, and why it refuses.
 ghost use Rattle.std.specs.Prelude.{◌≡◌};
-ghost use Rattle.forms.specs.Refusals.{number as refusal-number};
 ghost use Rattle.book.specs.Faults.{book_refusal};
+ghost use Rattle.book.specs.declared.types.BookFault.TheVariants.{NotAdmitted};
 
 use fitting::faults::FitFault;
+use forms::refusals::Refused;
 use relation::AdmissionFault;
 
 // Whether every order that fits the first row of a pair fits the second.
@@ -34,11 +35,18 @@ pub enum BookFault {
     NotFitted(FitFault),
 }
 
-impl BookFault {
-    // The number by which the fault is known.
-    pub fn number(&self) -> u8
-        ensures { result ≡ refusal-number (book_refusal self.now) }
-    {
+impl From<AdmissionFault> for BookFault {
+    ghost from_gives = { λ e f. f ≡ NotAdmitted e };
+
+    fn from(e: AdmissionFault) -> BookFault {
+        BookFault::NotAdmitted(e)
+    }
+}
+
+impl Refused for BookFault {
+    ghost refusal = { book_refusal };
+
+    fn number(&self) -> u8 {
         match self {
             BookFault::NotAdmitted(fault) => fault.number(),
             BookFault::RowOutside => 21,

@@ -3,6 +3,7 @@ use super::tables::{PATTERN, SHUT, TWO_PAIRS};
 use book::Book;
 use book::types::BookFault;
 use documents::nodes::Node;
+use forms::refusals::Refused;
 use relation::AdmissionFault;
 use texts::RowText;
 

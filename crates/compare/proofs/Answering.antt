@@ -1,5 +1,6 @@
 -- The number that answers a question: it is one of 64 bits, and says what the rows have it say. Assumes nothing.
-use Rattle.std.proofs.Common.{◌≡◌, ℕ, ◌+◌, ◌^◌, ◌<◌, ◌≤◌, ◌⊎◌, ◌↔◌, List, ◌++◌, length, drop, Ok, Err, Result, sym, refl, ap, ◌∙◌, subst, inl, inr, arith}
+use Rattle.std.proofs.Common.{◌≡◌, ℕ, ◌+◌, ◌^◌, ◌<◌, ◌≤◌, ◌⊎◌, ◌↔◌, List, ◌++◌, length, drop, Ok, Err, Result, sym, refl, ap, ◌∙◌, subst, inl, inr, ⊎_elim, arith}
+use Rattle.std.proofs.lemmas.Bool.{cases_lt, cases_eq}
 use Rattle.forms.specs.Limits.{max_rows}
 use Rattle.forms.specs.Refusals.{Refusal, Outcome, number, values}
 use Rattle.forms.specs.Refusals.Outcome.{refuses, gives}
@@ -15,7 +16,7 @@ use Rattle.relation.specs.Admission.{Finds}
 use Rattle.relation.specs.Admission.Finds.{no_rows, number_outside, label_twice}
 use Rattle.relation.proofs.Judging.{outside_below, sharing_below}
 use Rattle.schema.specs.Rules.{Included, Below}
-use Rattle.compare.specs.Comparing.{Refutes, room, Found, answer, Refused, Settled, Compares}
+use Rattle.compare.specs.Comparing.{Refutes, room, Found, answer, Refused, Settled, Answers, Compares}
 use Rattle.compare.specs.Reasons.{TextsFail, TablesFail, RowsFail, Faulty, Comparable, together}
 use Rattle.compare.specs.Reasons.TextsFail.{our_text, their_text}
 use Rattle.compare.specs.Reasons.TablesFail.{our_table, their_table, too_many}
@@ -25,8 +26,8 @@ use Rattle.compare.specs.Reports.{Report, place_by, told, report, no_with, packe
 use Rattle.compare.specs.declared.comparing.Finding.{Finding}
 use Rattle.compare.specs.declared.comparing.Finding.TheVariants.{Yes, No}
 use Rattle.compare.specs.declared.faults.CompareFault.{CompareFault}
-use Rattle.compare.specs.declared.faults.CompareFault.TheVariants.{Writing}
-use Rattle.compare.proofs.Reasons.{one_report, fault_or_answer, by_reading}
+use Rattle.compare.specs.declared.faults.CompareFault.TheVariants.{Text, Admission, Joining, Asking, Writing}
+use Rattle.compare.proofs.Reasons.{one_of, fault_or_answer, by_reading}
 
 -- the refusal has a low number and a low place
 pub record Low (e : Refusal) : Type 0 where
@@ -89,62 +90,85 @@ fault_short ours theirs p q e (by_text x) = texts_short ours theirs e x
 fault_short ours theirs p q e (by_table {a} {b} r x) = tables_short a b (read_few ours _ a r.ours_read refl) (read_few theirs _ b r.theirs_read refl) e x
 fault_short ours theirs p q e (by_row {a} {b} r j x) = rows_short a b p q e x
 
-found_low : (rows : List Row) (p q : ℕ) (before after : List ℕ) (r : Result Finding CompareFault) → Found rows p q before after r → answer r < 2 ^ 64
-found_low rows p q before after (Ok Yes) found = omega arith
-found_low rows p q before after (Ok (No n)) (_, text, _, fits, long, _) = omega arith
-found_low rows p q before after (Err e) (_, _, _, _, is, _) = subst (λ x. packed (report x) < 2 ^ 64) (sym is) (omega arith)
-
 -- a document that tells two rows apart is not one that fits both
 apart : (rows : List Row) (p q : ℕ) (text : List ℕ) → Refutes rows p q text → Included rows p q → ⊥
 apart rows p q text r included = r.shows.fits_not (included r.shows.order r.is_order r.shows.fits)
 
--- what is said of two rows: 0 exactly if every document that fits the one fits the other, and if the one is below the other
-yes_is : {A : Type 0} → A → (n : ℕ) → n ≡ 0 → (n ≡ 0) ↔ A
-yes_is a n e = (λ _. a, λ _. e)
+-- what is found of two rows says whether every document that fits the one fits the other, and whether the one is below the other
+found_yes : (rows : List Row) (p q : ℕ) (before after : List ℕ) (r : Result Finding CompareFault) → Found rows p q before after r → ((r ≡ Ok Yes) ↔ Included rows p q) × ((r ≡ Ok Yes) ↔ Below rows p q)
+found_yes rows p q before after (Ok Yes) (included, below, _) = ((λ _. included, λ _. refl), (λ _. below, λ _. refl))
+found_yes rows p q before after (Ok (No n)) (not_below, text, refutes, _, _, _) = ((λ e. never (cc), λ i. absurd (apart rows p q text refutes i)), (λ e. never (cc), λ b. absurd (not_below b)))
+found_yes rows p q before after (Err e) (not_below, text, refutes, _, _, _) = ((λ h. never (cc), λ i. absurd (apart rows p q text refutes i)), (λ h. never (cc), λ b. absurd (not_below b)))
 
-no_is : {A : Type 0} → (A → ⊥) → (n : ℕ) → 0 < n → (n ≡ 0) ↔ A
-no_is not n h = (λ e. absurd (omega arith), λ a. absurd (not a))
-
-found_yes : (rows : List Row) (p q : ℕ) (before after : List ℕ) (r : Result Finding CompareFault) → Found rows p q before after r → ((answer r ≡ 0) ↔ Included rows p q) × ((answer r ≡ 0) ↔ Below rows p q)
-found_yes rows p q before after (Ok Yes) (included, below, _) = (yes_is included 0 refl, yes_is below 0 refl)
-found_yes rows p q before after (Ok (No n)) (not_below, text, refutes, _, _, _) = (no_is (apart rows p q text refutes) (packed (no_with n)) (omega arith), no_is not_below (packed (no_with n)) (omega arith))
-found_yes rows p q before after (Err e) (not_below, text, refutes, _, is, _) =
-    let up : 0 < packed (report e) = subst (λ x. 0 < packed (report x)) (sym is) (omega arith) in
-    (no_is (apart rows p q text refutes) (packed (report e)) up, no_is not_below (packed (report e)) up)
-
-found_kept : (rows : List Row) (p q : ℕ) (before after : List ℕ) (r : Result Finding CompareFault) → Found rows p q before after r → answer r ≡ 0 → after ≡ before
+found_kept : (rows : List Row) (p q : ℕ) (before after : List ℕ) (r : Result Finding CompareFault) → Found rows p q before after r → r ≡ Ok Yes → after ≡ before
 found_kept rows p q before after (Ok Yes) (_, _, same) e = same
-found_kept rows p q before after (Ok (No n)) found e = absurd (omega arith)
+found_kept rows p q before after (Ok (No n)) found e = never (cc)
 found_kept rows p q before after (Err _) (_, _, _, _, _, same) e = same
 
-found_no : (rows : List Row) (p q : ℕ) (before after : List ℕ) (r : Result Finding CompareFault) → Found rows p q before after r → (Included rows p q → ⊥) → (n : ℕ) → n ≡ answer r →
-    (text : List ℕ) × Refutes rows p q text × (length text ≤ room before → Says n (no_with (length text)) × (after ≡ text ++ drop (length text) before)) × (room before < length text → Says n (report (Writing TooLong)) × (after ≡ before))
-found_no rows p q before after (Ok Yes) (included, _, _) not n is-n = absurd (not included)
-found_no rows p q before after (Ok (No k)) (_, text, refutes, fits, long, e) not n is-n =
-    (text, refutes, λ _. (says (no_with (length text)) (no_short (length text) (omega arith)) n (is-n ∙ ap (λ x. packed (no_with x)) long), e ∙ ap (λ x. text ++ drop x before) long), λ over. absurd (omega arith))
-found_no rows p q before after (Err e) (_, text, refutes, over, is, same) not n is-n =
-    (text, refutes, λ fits. absurd (omega arith), λ _. (says (report (Writing TooLong)) long_short n (is-n ∙ ap (λ x. packed (report x)) is), same))
+found_no : (rows : List Row) (p q : ℕ) (before after : List ℕ) (r : Result Finding CompareFault) → Found rows p q before after r → (Included rows p q → ⊥) →
+    (text : List ℕ) × Refutes rows p q text × (length text ≤ room before → (r ≡ Ok (No (length text))) × (after ≡ text ++ drop (length text) before)) × (room before < length text → (r ≡ Err (Writing TooLong)) × (after ≡ before))
+found_no rows p q before after (Ok Yes) (included, _, _) not = absurd (not included)
+found_no rows p q before after (Ok (No k)) (_, text, refutes, fits, long, e) not = (text, refutes, λ _. (ap (λ x. Ok (No x)) long, e ∙ ap (λ x. text ++ drop x before) long), λ over. absurd (omega arith))
+found_no rows p q before after (Err e) (_, text, refutes, over, is, same) not = (text, refutes, λ fits. absurd (omega arith), λ _. (ap Err is, same))
+
+-- the answer is 0 exactly if it is yes
+zero_is : (r : Result Finding CompareFault) → (answer r ≡ 0) ↔ (r ≡ Ok Yes)
+zero_is (Ok Yes) = (λ _. refl, λ _. refl)
+zero_is (Ok (No n)) = (λ e. absurd (omega arith), λ e. never (cc))
+zero_is (Err (Text side e)) = (λ z. absurd (omega arith), λ h. never (cc))
+zero_is (Err (Admission side e)) = (λ z. absurd (omega arith), λ h. never (cc))
+zero_is (Err (Joining e)) = (λ z. absurd (omega arith), λ h. never (cc))
+zero_is (Err (Asking side e)) = (λ z. absurd (omega arith), λ h. never (cc))
+zero_is (Err (Writing e)) = (λ z. absurd (omega arith), λ h. never (cc))
 
 module _ (ours theirs : List ℕ) (p q t : ℕ) (before after : List ℕ) (r : Result Finding CompareFault) where
-  pub answer_low : Refused ours theirs p q before after r ⊎ Settled ours theirs p q t before after r → answer r < 2 ^ 64
-  answer_low (inl (e, faulty, is, _)) = subst (λ x. answer x < 2 ^ 64) (sym is) (fault_short ours theirs p q e faulty).fits
-  answer_low (inr (a, b, _, found)) = found_low (together a b t) p (length a + q) before after r found
-
-  pub answers : Refused ours theirs p q before after r ⊎ Settled ours theirs p q t before after r → (n : ℕ) → n ≡ answer r → Compares ours theirs p q t before after n
-  answers (inl (e, faulty, is, same)) n e-n = record {
+  pub answered : Refused ours theirs p q before after r ⊎ Settled ours theirs p q t before after r → Answers ours theirs p q t before after r
+  answered (inl (e, faulty, is, same)) = record {
     either = inl (e, faulty);
-    fault = λ f other. (says (report f) (fault_short ours theirs p q f other) n (e-n ∙ ap answer is ∙ ap packed (sym (one_report ours theirs p q e f faulty other))), same);
+    fault = λ f other. (is ∙ ap Err (sym (one_of ours theirs p q e f faulty other)), same);
     yes = λ a b c. absurd (fault_or_answer ours theirs p q e a b faulty c);
     kept = λ _. same;
     no = λ a b c. absurd (fault_or_answer ours theirs p q e a b faulty c);
   }
-  answers (inr (a, b, c, found)) n e-n = record {
+  answered (inr (a, b, c, found)) = record {
     either = inr (a, b, c);
     fault = λ e faulty. absurd (fault_or_answer ours theirs p q e a b faulty c);
-    yes = λ v w d. subst (λ x. ((x ≡ 0) ↔ Included (together v w t) p (length v + q)) × ((x ≡ 0) ↔ Below (together v w t) p (length v + q))) (sym e-n) (found_yes (together v w t) p (length v + q) before after r (again v w d));
-    kept = λ z. found_kept (together a b t) p (length a + q) before after r found (sym e-n ∙ z);
-    no = λ v w d not. found_no (together v w t) p (length v + q) before after r (again v w d) not n e-n;
+    yes = λ v w d. found_yes (together v w t) p (length v + q) before after r (again v w d);
+    kept = found_kept (together a b t) p (length a + q) before after r found;
+    no = λ v w d. found_no (together v w t) p (length v + q) before after r (again v w d);
   }
     where
       again : (v w : List Row) → Comparable ours theirs p q v w → Found (together v w t) p (length v + q) before after r
       again v w d = by_reading (λ x y. Found (together x y t) p (length x + q) before after r) ours theirs a b v w c.read d.read found
+
+  module _ (answers : Answers ours theirs p q t before after r) where
+    no_low : (a b : List Row) → Comparable ours theirs p q a b → (r ≡ Ok Yes → ⊥) → answer r < 2 ^ 64
+    no_low a b c not =
+        let (text, _, fits, over) = answers.no a b c (λ i. not ((answers.yes a b c).0.1 i)) in
+        ⊎_elim (λ long. subst (λ x. answer x < 2 ^ 64) (sym (over long).0) long_short.fits) (λ short. subst (λ x. answer x < 2 ^ 64) (sym (fits short).0) (no_short (length text) (omega arith)).fits) (cases_lt (room before) (length text))
+
+    pub answer_low : answer r < 2 ^ 64
+    answer_low = ⊎_elim
+        (λ (e, faulty). subst (λ x. answer x < 2 ^ 64) (sym (answers.fault e faulty).0) (fault_short ours theirs p q e faulty).fits)
+        (λ (a, b, c). ⊎_elim (λ zero. subst (λ x. x < 2 ^ 64) (sym zero) (omega arith)) (λ not. no_low a b c (λ yes. not ((zero_is r).1 yes))) (cases_eq (answer r) 0))
+        answers.either
+
+    pub compares : (n : ℕ) → n ≡ answer r → Compares ours theirs p q t before after n
+    compares n is = record {
+      either = answers.either;
+      fault = λ e faulty. let (as_fault, same) = answers.fault e faulty in (says (report e) (fault_short ours theirs p q e faulty) n (is ∙ ap answer as_fault), same);
+      yes = λ a b c. let (included, below) = answers.yes a b c in (
+        (λ z. included.0 (yes z), λ h. is ∙ (zero_is r).1 (included.1 h)),
+        (λ z. below.0 (yes z), λ h. is ∙ (zero_is r).1 (below.1 h)),
+      );
+      kept = λ z. answers.kept (yes z);
+      no = λ a b c not. let (text, refutes, fits, over) = answers.no a b c not in (
+        text,
+        refutes,
+        λ short. (says (no_with (length text)) (no_short (length text) (omega arith)) n (is ∙ ap answer (fits short).0), (fits short).1),
+        λ long. (says (report (Writing TooLong)) long_short n (is ∙ ap answer (over long).0), (over long).1),
+      );
+    }
+      where
+        yes : n ≡ 0 → r ≡ Ok Yes
+        yes z = (zero_is r).0 (sym is ∙ z)

@@ -26,9 +26,15 @@ use Rattle.showing.proofs.Drawing.{places_few}
 use Rattle.schema.specs.Rules.{IsDocument, Below}
 use Rattle.showing.specs.Showing.{Witnesses}
 use Rattle.compare.specs.Comparing.{Refutes, Found}
-use Rattle.compare.specs.Layers.{written}
+use Rattle.compare.specs.declared.comparing.Finding.{Finding}
 use Rattle.compare.specs.declared.comparing.Finding.TheVariants.{No}
+use Rattle.compare.specs.declared.faults.CompareFault.{CompareFault}
 use Rattle.compare.specs.declared.faults.CompareFault.TheVariants.{Writing}
+
+-- what writing an order means for a comparison
+abbrev pub written : Result ℕ WriteFault → Result Finding CompareFault
+written (Ok n) = Ok (No n)
+written (Err e) = Err (Writing e)
 
 -- a node of a table that is sound over rows stands for a document over them
 document_over : {rows : List Row} {nodes : List Node} {k : ℕ} {d : Document} → SoundOver rows nodes → StandsFor nodes k d → IsDocument rows d
@@ -111,7 +117,3 @@ module _ (rows : List Row) (p q : ℕ) (nodes : List Node) (few : length rows �
       by (Err e) (writes, same) =
           let (which, over) = as_fault (length before) root nodes w.order nodes_few (sound_table rows few nodes w.sound) (omega arith) stands (refuses (write_refusal e)) writes e refl in
           (not_below, spelled_document w.order, refutes (spelled_document w.order) refl, over, ap Writing which, same)
-
--- the same of a result that is known, and of the rows by another name
-pub found_in : (rows rows' : List Row) (p q : ℕ) (before after : List ℕ) (r : Result ℕ WriteFault) (n : ℕ) → rows' ≡ rows → r ≡ Ok n → Found rows' p q before after (written r) → Found rows p q before after (Ok (No n))
-found_in rows rows' p q before after r n same is found = subst (λ x. Found x p q before after (Ok (No n))) same (subst (λ x. Found rows' p q before after (written x)) is found)

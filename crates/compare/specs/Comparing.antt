@@ -47,6 +47,20 @@ abbrev pub Settled : List ℕ → List ℕ → ℕ → ℕ → ℕ → List ℕ 
 Settled ours theirs p q t before after r = (a b : List Row) × Comparable ours theirs p q a b × Found (together a b t) p (length a + q) before after r
 
 -- The answer to a question.
+pub record Answers (ours theirs : List ℕ) (p q t : ℕ) (before after : List ℕ) (r : Result Finding CompareFault) : Type 0 where
+  -- there is a fault, or the rows can be compared
+  pub either : ((e : CompareFault) × Faulty ours theirs p q e) ⊎ ((a b : List Row) × Comparable ours theirs p q a b)
+  pub fault : (e : CompareFault) → Faulty ours theirs p q e → (r ≡ Err e) × (after ≡ before)
+  -- yes: every document that fits row p of ours fits row q of theirs; and so it is if the one row is below the other
+  pub yes : (a b : List Row) → Comparable ours theirs p q a b → ((r ≡ Ok Yes) ↔ Included (together a b t) p (length a + q)) × ((r ≡ Ok Yes) ↔ Below (together a b t) p (length a + q))
+  pub kept : r ≡ Ok Yes → after ≡ before
+  -- no comes with the length of a text, which the buffer begins with; or the text is too long
+  pub no : (a b : List Row) → Comparable ours theirs p q a b → (Included (together a b t) p (length a + q) → ⊥) →
+      (text : List ℕ) × Refutes (together a b t) p (length a + q) text
+      × (length text ≤ room before → (r ≡ Ok (No (length text))) × (after ≡ text ++ drop (length text) before))
+      × (room before < length text → (r ≡ Err (Writing TooLong)) × (after ≡ before))
+
+-- The same answer, as one number.
 pub record Compares (ours theirs : List ℕ) (p q t : ℕ) (before after : List ℕ) (r : ℕ) : Type 0 where
   -- there is a fault, or the rows can be compared
   pub either : ((e : CompareFault) × Faulty ours theirs p q e) ⊎ ((a b : List Row) × Comparable ours theirs p q a b)

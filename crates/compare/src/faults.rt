@@ -1,28 +1,29 @@
 // Why a question is refused: the layer that refuses it, the fault's number, and where it lies.
 ghost use Rattle.std.specs.Prelude.{◌≡◌, ◌^◌, ◌<◌};
-ghost use Rattle.compare.specs.declared.faults.CompareFault.TheVariants.{Text, Admission, Joining, Asking, Writing};
-ghost use Rattle.compare.specs.Reports.{which, report, packed as packed-number};
+ghost use Rattle.compare.specs.Reports.{which, join_refusal, report, packed as packed-number};
 
 use book::types::BookFault;
 use documents::faults::WriteFault;
+use forms::refusals::Refused;
 use relation::AdmissionFault;
 use texts::TextFault;
 
 // The two tables: the caller's own, and the one that it is compared with. The first row asked about is of ours, the second of theirs.
-#[derive(Clone, Copy)]
+#[derive(Clone, Copy, PartialEq, Eq, Debug)]
 pub enum Side {
     Ours,
     Theirs,
 }
 
 // Why two tables are not joined.
-#[derive(Clone, Copy)]
+#[derive(Clone, Copy, PartialEq, Eq, Debug)]
 pub enum JoinFault {
     // they have more rows together than a table has
     TooManyRows,
 }
 
-#[derive(Clone, Copy)]
+// Why a question is refused.
+#[derive(Clone, Copy, PartialEq, Eq, Debug)]
 pub enum CompareFault {
     // the text of one of the tables is refused
     Text(Side, TextFault),
@@ -36,53 +37,25 @@ pub enum CompareFault {
     Writing(WriteFault),
 }
 
-impl From<(Side, TextFault)> for CompareFault {
-    ghost from_gives = { λ e f. f ≡ Text e.0 e.1 };
-
-    fn from(e: (Side, TextFault)) -> CompareFault {
-        CompareFault::Text(e.0, e.1)
-    }
-}
-
-impl From<(Side, AdmissionFault)> for CompareFault {
-    ghost from_gives = { λ e f. f ≡ Admission e.0 e.1 };
-
-    fn from(e: (Side, AdmissionFault)) -> CompareFault {
-        CompareFault::Admission(e.0, e.1)
-    }
-}
-
-impl From<JoinFault> for CompareFault {
-    ghost from_gives = { λ e f. f ≡ Joining e };
-
-    fn from(e: JoinFault) -> CompareFault {
-        CompareFault::Joining(e)
-    }
-}
-
-impl From<(Side, BookFault)> for CompareFault {
-    ghost from_gives = { λ e f. f ≡ Asking e.0 e.1 };
-
-    fn from(e: (Side, BookFault)) -> CompareFault {
-        CompareFault::Asking(e.0, e.1)
-    }
-}
-
-impl From<WriteFault> for CompareFault {
-    ghost from_gives = { λ e f. f ≡ Writing e };
-
-    fn from(e: WriteFault) -> CompareFault {
-        CompareFault::Writing(e)
-    }
-}
-
 // 0 for ours, 1 for theirs.
-fn index(side: Side) -> u64
-    ensures { result ≡ which side }
-{
-    match side {
-        Side::Ours => 0,
-        Side::Theirs => 1,
+impl From<Side> for u64 {
+    ghost from_gives = { λ side n. n ≡ which side };
+
+    fn from(side: Side) -> u64 {
+        match side {
+            Side::Ours => 0,
+            Side::Theirs => 1,
+        }
+    }
+}
+
+impl Refused for JoinFault {
+    ghost refusal = { join_refusal };
+
+    fn number(&self) -> u8 {
+        match self {
+            JoinFault::TooManyRows => 10,
+        }
     }
 }
 
@@ -92,8 +65,8 @@ impl CompareFault {
         ensures { result ≡ (report self.now).layer }
     {
         match self {
-            CompareFault::Text(side, _) => 1 + index(*side),
-            CompareFault::Admission(side, _) => 3 + index(*side),
+            CompareFault::Text(side, _) => 1 + u64::from(*side),
+            CompareFault::Admission(side, _) => 3 + u64::from(*side),
             CompareFault::Joining(_) => 5,
             CompareFault::Asking(_, _) => 6,
             CompareFault::Writing(_) => 7,
@@ -107,7 +80,7 @@ impl CompareFault {
         match self {
             CompareFault::Text(_, fault) => fault.number(),
             CompareFault::Admission(_, fault) => fault.number(),
-            CompareFault::Joining(JoinFault::TooManyRows) => 10,
+            CompareFault::Joining(fault) => fault.number(),
             CompareFault::Asking(_, fault) => fault.number(),
             CompareFault::Writing(fault) => fault.number(),
         }
@@ -123,7 +96,7 @@ impl CompareFault {
                 + *field as u64,
             CompareFault::Admission(_, AdmissionFault::NumberOutside { row }) => *row as u64,
             CompareFault::Admission(_, AdmissionFault::LabelTwice { row }) => *row as u64,
-            CompareFault::Asking(side, _) => index(*side),
+            CompareFault::Asking(side, _) => u64::from(*side),
             CompareFault::Writing(WriteFault::Unsound { node }) => *node as u64,
             _ => 0,
         }

@@ -1,21 +1,37 @@
-// One question about two tables of forms, for a program in another language.
+// One question about two tables of forms.
 #![tactic(auto)]
 
 ghost use Rattle.relation.specs.Sources.{JoinedIsAdmitted, TurnedIsAdmitted};
-ghost use Rattle.compare.specs.Comparing.{Compares};
+ghost use Rattle.compare.specs.Comparing.{Answers, Compares};
 ghost use Rattle.compare.specs.Reasons.{OneFault, FaultOrAnswer, OneMeaning};
 
 pub mod comparing;
 pub mod faults;
 
-use comparing::{compared, number};
+use comparing::{Finding, compared, number};
+use faults::CompareFault;
 
 // Whether every order that fits row p of our table fits row q of theirs, which is turned unless t is 0. The tables are
-// texts, and the answer is one number: 0 for yes; 1 + 65,536 × n for no, where the first n bytes of the buffer are the text
-// of an order that fits the one and not the other; else code + 256 × layer + 65,536 × place of the first fault.
+// texts. At a no the buffer begins with the text of an order that fits the one and not the other; else it stays.
+pub fn question(
+    ours: &[u8],
+    theirs: &[u8],
+    p: u64,
+    q: u64,
+    t: u64,
+    buffer: &mut [u8],
+) -> Result<Finding, CompareFault>
+    ensures answers { Answers ours.now theirs.now p q t buffer.old buffer.new result }
+    ensures laws { (OneFault) × ((FaultOrAnswer) × ((OneMeaning) × ((JoinedIsAdmitted) × (TurnedIsAdmitted)))) }
+{
+    compared(ours, theirs, p, q, t, buffer)
+}
+
+// The same question, for a program in another language: the answer is one number, 0 for yes; 1 + 65,536 × n for no, where
+// the first n bytes of the buffer are the order's text; else code + 256 × layer + 65,536 × place of the first fault.
 pub fn compare(ours: &[u8], theirs: &[u8], p: u64, q: u64, t: u64, buffer: &mut [u8]) -> u64
     ensures compares { Compares ours.now theirs.now p q t buffer.old buffer.new result }
     ensures laws { (OneFault) × ((FaultOrAnswer) × ((OneMeaning) × ((JoinedIsAdmitted) × (TurnedIsAdmitted)))) }
 {
-    number(compared(ours, theirs, p, q, t, buffer))
+    number(question(ours, theirs, p, q, t, buffer))
 }

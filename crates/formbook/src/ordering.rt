@@ -2,6 +2,7 @@
 use documents::faults::ReadFault;
 use documents::nodes::{MAX_NODES, Node};
 use documents::reader::read_document;
+use forms::refusals::Refused;
 
 fn print_spaces(rt: &HostRuntime, count: usize) -> anyhow::Result<()> {
     for _ in 0..count {

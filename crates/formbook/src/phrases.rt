@@ -2,6 +2,7 @@
 use book::types::BookFault;
 use documents::nodes::MAX_NODES;
 use fitting::faults::FitFault;
+use forms::refusals::Refused;
 use forms::{Capability, LABELS, Row};
 use relation::AdmissionFault;
 use texts::{RowsFault, TextFault};

@@ -11,7 +11,7 @@ use forms::FormSource;
 // One call.
 pub fn perform<S: FormSource>(book: &mut Book<S>, call: Call) -> Answer
     ensures source { book.new.source ≡ book.old.source }
-    ensures meets { Meets book.old.fault book.old.ledger (call_of call) (answer_of result) book.new.fault book.new.ledger }
+    ensures meets { Meets book.old.pages (call_of call) (answer_of result) book.new.pages }
 {
     match call {
         Call::Ask(pair) => Answer::Asked(book.ask(pair)),

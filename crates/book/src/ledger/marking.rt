@@ -55,10 +55,7 @@ impl Ledger {
         if row as usize >= self.prepared.count() {
             return Err(BookFault::RowOutside);
         }
-        match check(&self.prepared, nodes, root, marks) {
-            Ok(()) => Ok(()),
-            Err(fault) => Err(BookFault::NotFitted(fault)),
-        }
+        check(&self.prepared, nodes, root, marks).map_err(BookFault::NotFitted)
     }
 
     // Marks for each node the rows that it fits by the pairs that are yes, and tells whether the root fits the row.
@@ -67,10 +64,7 @@ impl Ledger {
         ensures marked { Marked (ledger_rows self.now) (Among (length (ledger_rows self.now)) self.now.yes) nodes.now marks.new }
         ensures told { TellsRoot (ledger_rows self.now) (Among (length (ledger_rows self.now)) self.now.yes) nodes.now root row result }
     {
-        match mark(&self.prepared, &self.yes, nodes, root, row, marks) {
-            Ok(fits) => fits,
-            Err(_) => false,
-        }
+        mark(&self.prepared, &self.yes, nodes, root, row, marks).unwrap()
     }
 
     // Settles each pair of a referenced row and a channel row, and then marks for each node the rows that it fits.
@@ -83,9 +77,7 @@ impl Ledger {
     ) -> Result<(bool, usize), BookFault>
         ensures { Done self.old (fit nodes.now root row marks.old) (fitted (outcome result) marks.new) self.new }
     {
-        if let Err(fault) = self.fittable(nodes, root, row, marks.len()) {
-            return Err(fault);
-        }
+        self.fittable(nodes, root, row, marks.len())?;
         let pairs = wanted(&self.prepared, nodes);
         let new = self.settle_all(pairs);
         let fits = self.mark_nodes(nodes, root, row, marks);

@@ -1,5 +1,5 @@
 // Opening, clearing, and taking in relations that others found.
-ghost use Rattle.std.specs.Prelude.{◌≡◌, ℕ, ◌*◌, ◌/◌, ◌%◌, ◌<◌, ◌≤◌, false, length, MatchOption};
+ghost use Rattle.std.specs.Prelude.{◌≡◌, ℕ, ◌*◌, ◌≤◌, false, length, MatchOption};
 ghost use Rattle.forms.specs.Refusals.Outcome.{gives};
 ghost use Rattle.sets.specs.Sets.{member};
 ghost use Rattle.schema.specs.Rules.{Closed};
@@ -41,19 +41,17 @@ impl Ledger {
         self.settled = [0; PAIR_WORDS];
     }
 
-    // The lowest pair of a relation that breaks the rules within it, by its place.
-    fn breaking(&self, relation: &[u64]) -> Option<usize>
+    // The lowest pair of a relation that breaks the rules within it.
+    fn breaking(&self, relation: &[u64]) -> Option<(u8, u8)>
         requires { (k : ℕ) → length (ledger_rows self.now) * length (ledger_rows self.now) ≤ k → member relation.now k ≡ false }
-        ensures { MatchOption result (Closed (ledger_rows self.now) (related (length (ledger_rows self.now)) relation.now)) (λ k. (k < length (ledger_rows self.now) * length (ledger_rows self.now)) × Breaks (ledger_rows self.now) relation.now (k / length (ledger_rows self.now)) (k % length (ledger_rows self.now))) }
+        ensures { MatchOption result (Closed (ledger_rows self.now) (related (length (ledger_rows self.now)) relation.now)) (λ pair. Breaks (ledger_rows self.now) relation.now pair.0 pair.1) }
     {
         let n = self.prepared.count();
         let mut from = 0;
         while let Some(k) = sets::next(relation, from) {
-            if !self
-                .prepared
-                .keeps(((k / n) as u8, (k % n) as u8), relation)
-            {
-                return Some(k);
+            let pair = ((k / n) as u8, (k % n) as u8);
+            if !self.prepared.keeps(pair, relation) {
+                return Some(pair);
             }
             from = k + 1;
         }
@@ -68,14 +66,11 @@ impl Ledger {
         if relation.len() != numbers_for(n) {
             return Err(BookFault::RelationLength);
         }
-        if let Some(_) = sets::next(relation, n * n) {
+        if sets::next(relation, n * n).is_some() {
             return Err(BookFault::BitOutside);
         }
-        if let Some(k) = self.breaking(relation) {
-            return Err(BookFault::RuleBroken {
-                p: (k / n) as u8,
-                q: (k % n) as u8,
-            });
+        if let Some((p, q)) = self.breaking(relation) {
+            return Err(BookFault::RuleBroken { p, q });
         }
         sets::join(&mut self.yes, relation);
         Ok(sets::join(&mut self.held, relation))

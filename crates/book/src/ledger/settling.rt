@@ -44,10 +44,7 @@ impl Ledger {
         if self.has_settled(pair) {
             return Ok((self.verdict(pair), 0));
         }
-        let n = self.prepared.count();
-        if pair.0 as usize >= n || pair.1 as usize >= n {
-            return Err(BookFault::RowOutside);
-        }
+        self.in_table(pair)?;
         let leaned = self.prepared.leaned_once(pair);
         let new = self.settle(leaned);
         Ok((self.verdict(pair), new))

@@ -14,22 +14,17 @@ impl Ledger {
     pub(crate) fn show(&self, pair: (u8, u8), nodes: &mut [Node]) -> Result<usize, BookFault>
         ensures { Done self.now (show pair.0 pair.1 nodes.old) (shown (outcome result) nodes.new) self.now }
     {
-        let n = self.prepared.count();
-        if pair.0 as usize >= n || pair.1 as usize >= n {
-            return Err(BookFault::RowOutside);
-        }
+        self.in_table(pair)?;
         if !self.prepared.relates(&self.held, pair.0, pair.1) {
             return Err(BookFault::NotHeldAsNo);
         }
         if self.prepared.relates(&self.yes, pair.0, pair.1) {
             return Err(BookFault::NotHeldAsNo);
         }
+        let n = self.prepared.count();
         if nodes.len() < n * (n + 1) {
             return Err(BookFault::FewNodes);
         }
-        match showing::show(&self.prepared, pair, nodes) {
-            Some(count) => Ok(count),
-            None => unreachable(),
-        }
+        Ok(showing::show(&self.prepared, pair, nodes).unwrap())
     }
 }

@@ -15,9 +15,9 @@ returns-in-HandOut g c =
     let v = c.in-HandOut.buffer in
     record {
       source = refl;
-      meets = subst (λ call. Meets b.fault b.ledger (call_of call) (handed_out o (refill after v.items v.len)) b.fault b.ledger) (sym c.in-HandOut.is)
-          (subst (λ ys. Meets b.fault b.ledger (hands_out (vec_items v)) (handed_out o ys) b.fault b.ledger) (sym (refilled after v.items v.len (c.hand_out-handed.auto.buffer ∙ c.deref_mut.ensures.len)))
-          (subst (λ xs. Meets b.fault b.ledger (hands_out xs) (handed_out o after) b.fault b.ledger) c.deref_mut.ensures.value c.hand_out-handed.ensures));
+      meets = subst (λ call. Meets b.pages (call_of call) (handed_out o (refill after v.items v.len)) b.pages) (sym c.in-HandOut.is)
+          (subst (λ ys. Meets b.pages (hands_out (vec_items v)) (handed_out o ys) b.pages) (sym (refilled after v.items v.len (c.hand_out-handed.auto.buffer ∙ c.deref_mut.ensures.len)))
+          (subst (λ xs. Meets b.pages (hands_out xs) (handed_out o after) b.pages) c.deref_mut.ensures.value c.hand_out-handed.ensures));
     }
 
 pub returns-in-Show : goal.returns-in-Show
@@ -29,9 +29,9 @@ returns-in-Show g c =
     let p = c.in-Show.pair in
     record {
       source = refl;
-      meets = subst (λ call. Meets b.fault b.ledger (call_of call) (shown o (refill after v.items v.len)) b.fault b.ledger) (sym c.in-Show.is)
-          (subst (λ ys. Meets b.fault b.ledger (show p.0 p.1 (vec_items v)) (shown o ys) b.fault b.ledger) (sym (refilled after v.items v.len (c.show-shown.auto.nodes ∙ c.deref_mut-in-Show.ensures.len)))
-          (subst (λ xs. Meets b.fault b.ledger (show p.0 p.1 xs) (shown o after) b.fault b.ledger) c.deref_mut-in-Show.ensures.value c.show-shown.ensures));
+      meets = subst (λ call. Meets b.pages (call_of call) (shown o (refill after v.items v.len)) b.pages) (sym c.in-Show.is)
+          (subst (λ ys. Meets b.pages (show p.0 p.1 (vec_items v)) (shown o ys) b.pages) (sym (refilled after v.items v.len (c.show-shown.auto.nodes ∙ c.deref_mut-in-Show.ensures.len)))
+          (subst (λ xs. Meets b.pages (show p.0 p.1 xs) (shown o after) b.pages) c.deref_mut-in-Show.ensures.value c.show-shown.ensures));
     }
 
 pub returns-in-Fit : goal.returns-in-Fit
@@ -45,8 +45,8 @@ returns-in-Fit g c =
     let row = c.in-Fit.row in
     record {
       source = c.fit-fitted.ensures.source;
-      meets = subst (λ call. Meets b.fault b.ledger (call_of call) (fitted o (refill after v.items v.len)) d.fault d.ledger) (sym c.in-Fit.is)
-          (subst (λ ys. Meets b.fault b.ledger (fit (vec_items c.in-Fit.nodes) root row (vec_items v)) (fitted o ys) d.fault d.ledger) (sym (refilled after v.items v.len (c.fit-fitted.auto.marks ∙ c.deref_mut-in-Fit.ensures.len)))
-          (subst (λ xs. Meets b.fault b.ledger (fit xs root row (vec_items v)) (fitted o after) d.fault d.ledger) c.deref-in-Fit.ensures.value
-          (subst (λ ms. Meets b.fault b.ledger (fit c.deref-in-Fit.result.now root row ms) (fitted o after) d.fault d.ledger) c.deref_mut-in-Fit.ensures.value c.fit-fitted.ensures.meets)));
+      meets = subst (λ call. Meets b.pages (call_of call) (fitted o (refill after v.items v.len)) d.pages) (sym c.in-Fit.is)
+          (subst (λ ys. Meets b.pages (fit (vec_items c.in-Fit.nodes) root row (vec_items v)) (fitted o ys) d.pages) (sym (refilled after v.items v.len (c.fit-fitted.auto.marks ∙ c.deref_mut-in-Fit.ensures.len)))
+          (subst (λ xs. Meets b.pages (fit xs root row (vec_items v)) (fitted o after) d.pages) c.deref-in-Fit.ensures.value
+          (subst (λ ms. Meets b.pages (fit c.deref-in-Fit.result.now root row ms) (fitted o after) d.pages) c.deref_mut-in-Fit.ensures.value c.fit-fitted.ensures.meets)));
     }

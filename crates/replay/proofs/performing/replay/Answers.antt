@@ -20,7 +20,7 @@ loop-call-init g c =
     let made = c.new-book.ensures in
     let rows = g.S.FormSource.rows in
     let b = c.new-book.result in (
-      subst (λ bs. Standing (rows b.source) b.fault b.ledger [] (map answer_of bs)) (sym c.clear.ensures.items) (standing_none (rows b.source) b.fault b.ledger (subst (λ s. Made (rows s) b.fault b.ledger) (sym made.source) made.made)),
+      subst (λ bs. Standing (rows b.source) b.pages [] (map answer_of bs)) (sym c.clear.ensures.items) (standing_none (rows b.source) b.pages (subst (λ s. Made (rows s) b.pages) (sym made.source) made.made)),
       refl,
       refl,
       ap length c.clear.ensures.items,
@@ -33,7 +33,7 @@ loop-call-preserved g c =
     let before = c.loop-call.book in
     let after = c.perform-answer.new.book in
     let bs = vec_items c.loop-call.answers in (
-      standing_push rows before.fault after.fault before.ledger after.ledger c.loop-call.yielded bs (vec_items c.push_reserved.new.self) c.in-Some.call c.perform-answer.result
+      standing_push rows before.pages after.pages c.loop-call.yielded bs (vec_items c.push_reserved.new.self) c.in-Some.call c.perform-answer.result
           c.push_reserved.ensures.items c.loop-call.invariant.0 done.meets,
       append_assoc c.loop-call.yielded _ _ ∙ ap (λ v. c.loop-call.yielded ++ v) (sym c.in-Some.ensures.steps.0) ∙ c.loop-call.invariant.1,
       c.push_reserved.ensures.capacity ∙ c.loop-call.invariant.2,
@@ -47,7 +47,7 @@ returns g c =
     let nil : into_iter_items left ≡ [] = nil_from_length _ (omega (arith, c.in-None.ensures.steps.0, left.rest.ok.0)) in
     let all : c.loop-call.yielded ≡ vec_items c.args.calls =
     sym (append-nil c.loop-call.yielded) ∙ ap (λ v. c.loop-call.yielded ++ v) (sym nil) ∙ c.loop-call.invariant.1 ∙ c.into_iter-call-iterator.ensures.into_iter_gives.0 in
-    let law = standing_law (rows c.new-book.result.source) c.loop-call.book.fault c.loop-call.book.ledger (map call_of c.loop-call.yielded) (map answer_of (vec_items c.loop-call.answers)) c.loop-call.invariant.0 in (
+    let law = standing_law (rows c.new-book.result.source) c.loop-call.book.pages (map call_of c.loop-call.yielded) (map answer_of (vec_items c.loop-call.answers)) c.loop-call.invariant.0 in (
       omega (arith, c.capacity.ensures, c.len.ensures, c.if-capacity-len.false),
       subst (λ v. Law (rows c.args.source) (map call_of v) (map answer_of (vec_items c.loop-call.answers))) all
           (subst (λ s. Law (rows s) (map call_of c.loop-call.yielded) (map answer_of (vec_items c.loop-call.answers))) c.new-book.ensures.source law),

@@ -6,7 +6,7 @@ use Rattle.replay.proofs.performing.replay.Given as goal
 
 abbrev pub invariant-loop-call : goal.invariant-loop-call
 invariant-loop-call g l =
-    Standing (g.S.FormSource.rows l.initial.book.source) l.book.fault l.book.ledger (map call_of l.yielded) (map answer_of (vec_items l.answers))
+    Standing (g.S.FormSource.rows l.initial.book.source) l.book.pages (map call_of l.yielded) (map answer_of (vec_items l.answers))
     × (l.yielded ++ into_iter_items l.call-iterator ≡ into_iter_items l.initial.call-iterator)
     × (vec_capacity l.answers ≡ vec_capacity l.initial.answers)
     × (length (vec_items l.answers) ≡ length l.yielded)

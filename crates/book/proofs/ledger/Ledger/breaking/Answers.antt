@@ -9,6 +9,7 @@ use Rattle.verdicts.specs.Facts.{admitted_of}
 use Rattle.verdicts.specs.Pairs.{related}
 use Rattle.verdicts.proofs.Walks.{passed_none, passed_more, passed_all}
 use Rattle.book.specs.Ledgers.{ledger_rows}
+use Rattle.book.specs.Relations.{Breaks}
 use Rattle.book.specs.declared.ledger.Ledger.{Ledger}
 use Rattle.book.proofs.Offering.{Stands, all_keep, first_breaks}
 use Rattle.book.proofs.ledger.Ledger.breaking.Goals as goal
@@ -23,22 +24,22 @@ few_rows l n e = subst (λ m. m ≤ max_rows) (sym e) (buffer_laws l.prepared.ta
 low_place : (words : List ℕ) (m k : ℕ) → ((j : ℕ) → m ≤ j → member words j ≡ false) → member words k ≡ true → k < m
 low_place words m k clear on = ⊎_elim (λ h. h) (λ high. absurd (both_ways _ (clear k high) on)) (cases_lt k m)
 
-pub nonzero_div-k : goal.nonzero_div-k
-nonzero_div-k c = some_rows c.args.self.now c.count-n.result c.count-n.ensures
+pub nonzero_div-pair : goal.nonzero_div-pair
+nonzero_div-pair c = some_rows c.args.self.now c.count-n.result c.count-n.ensures
 
-pub nonzero_rem-k : goal.nonzero_rem-k
-nonzero_rem-k c = some_rows c.args.self.now c.count-n.result c.count-n.ensures
+pub nonzero_rem-pair : goal.nonzero_rem-pair
+nonzero_rem-pair c = some_rows c.args.self.now c.count-n.result c.count-n.ensures
 
-pub overflow_cast-k : goal.overflow_cast-k
-overflow_cast-k c =
+pub overflow_cast-pair : goal.overflow_cast-pair
+overflow_cast-pair c =
     let l = c.args.self.now in
     let n = c.count-n.result in
     let few = few_rows l n c.count-n.ensures in
     let low = div_below c.in-Some.k n n (some_rows l n c.count-n.ensures) (subst (λ m. c.in-Some.k < m * m) (sym c.count-n.ensures) (low_place c.args.relation.now _ c.in-Some.k c.requires c.in-Some.ensures.1)) in
     omega arith
 
-pub overflow_cast-k-in-Some : goal.overflow_cast-k-in-Some
-overflow_cast-k-in-Some c =
+pub overflow_cast-pair-in-Some : goal.overflow_cast-pair-in-Some
+overflow_cast-pair-in-Some c =
     let l = c.args.self.now in
     let n = c.count-n.result in
     let few = few_rows l n c.count-n.ensures in
@@ -70,11 +71,10 @@ returns-then-not-keeps c =
     let words = c.args.relation.now in
     let k = c.in-Some.k in
     let low = low_place words _ k c.requires c.in-Some.ensures.1 in
-    let broken : Stands rows words k → ⊥ = λ keeps. both_ways _ c.if-not-keeps.true (c.keeps.ensures.1 (subst (λ m. Keeps rows (related (length rows) words) (k / m) (k % m)) (sym c.count-n.ensures) keeps)) in (
-      low,
-      first_breaks rows words (admitted_of l.prepared).some k low c.in-Some.ensures.1 broken
-          (λ j less on. c.loop-k.invariant j (⊎_elim (λ h. h) (λ ge. absurd (both_ways _ (c.in-Some.ensures.2 j ge less) on)) (cases_lt j c.loop-k.from)) on),
-    )
+    let broken : Stands rows words k → ⊥ = λ keeps. both_ways _ c.if-not-keeps.true (c.keeps.ensures.1 (subst (λ m. Keeps rows (related (length rows) words) (k / m) (k % m)) (sym c.count-n.ensures) keeps)) in
+    subst (λ m. Breaks rows words (k / m) (k % m)) (sym c.count-n.ensures)
+    (first_breaks rows words (admitted_of l.prepared).some k low c.in-Some.ensures.1 broken
+    (λ j less on. c.loop-k.invariant j (⊎_elim (λ h. h) (λ ge. absurd (both_ways _ (c.in-Some.ensures.2 j ge less) on)) (cases_lt j c.loop-k.from)) on))
 
 pub returns : goal.returns
 returns c =

@@ -1,7 +1,14 @@
 use Rattle.std.proofs.Common.{length}
+use Rattle.std.proofs.lemmas.Result.{MatchResult-at_ok}
 use Rattle.book.specs.Ledgers.{ledger_rows}
-use Rattle.book.proofs.Fitting.{fit_or_fault}
+use Rattle.book.proofs.Fitting.{is_fitted}
 use Rattle.book.proofs.ledger.Ledger.mark_nodes.Goals as goal
 
-pub returns-in-Err : goal.returns-in-Err
-returns-in-Err c = absurd (fit_or_fault (ledger_rows c.args.self.now) c.args.nodes.now c.args.root (length c.args.marks.now) c.requires.1 _ c.in-Err.ensures.checked)
+pub unwrap-requires : goal.unwrap-requires
+unwrap-requires c = is_fitted (ledger_rows c.args.self.now) c.args.nodes.now c.args.root (length c.args.marks.now) c.mark.result c.requires.1 c.mark.ensures.checked
+
+pub returns : goal.returns
+returns c = record {
+  marked = MatchResult-at_ok _ _ c.unwrap.result c.unwrap.ensures c.mark.ensures.marked;
+  told = MatchResult-at_ok _ _ c.unwrap.result c.unwrap.ensures c.mark.ensures.told;
+}

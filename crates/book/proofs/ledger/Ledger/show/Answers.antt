@@ -1,5 +1,5 @@
 use Rattle.std.proofs.Common.{◌+◌, ◌*◌, ◌<◌, ◌≤◌, length, subst, arith}
-use Rattle.book.proofs.Witnessing.{show_yes, show_few, held_as_no}
+use Rattle.book.proofs.Witnessing.{is_shown, show_yes, show_few, held_as_no}
 use Rattle.book.proofs.ledger.Ledger.show.Goals as goal
 
 pub returns-then-relates : goal.returns-then-relates
@@ -10,8 +10,8 @@ returns-then-nodes-n c =
     show_few c.args.self.now c.args.pair.0 c.args.pair.1 c.args.nodes.now (omega arith) (omega arith) c.if-not-relates.ensures c.if-relates.ensures
     (subst (λ m. length c.args.nodes.now < m * (m + 1)) c.count-n.ensures c.if-nodes-n.true)
 
-pub unreachable-requires : goal.unreachable-requires
-unreachable-requires c =
+pub unwrap-requires : goal.unwrap-requires
+unwrap-requires c =
     let l = c.args.self.now in
     let no = held_as_no l c.args.pair.0 c.args.pair.1 c.args.nodes.now (omega arith) (omega arith) c.if-not-relates.ensures c.if-relates.ensures in
-    c.in-None.ensures.0 (omega arith, omega arith, no, subst (λ m. m * (m + 1) ≤ length c.args.nodes.now) c.count-n.ensures c.if-nodes-n.false)
+    is_shown _ _ _ _ c.show.new.nodes c.show.result (omega arith, omega arith, no, subst (λ m. m * (m + 1) ≤ length c.args.nodes.now) c.count-n.ensures c.if-nodes-n.false) c.show.ensures

@@ -1,0 +1,5 @@
+use Rattle.book.proofs.Meeting.{open_stays}
+use Rattle.book.proofs.Book.show.Goals as goal
+
+pub returns : goal.returns
+returns g c = open_stays c.args.self.now.pages _ _ _ c.in_ok-open.ensures c.show.ensures
