@@ -1,3 +1,4 @@
 pub mod Showing
 pub mod Drafts
 pub mod Drawing
+pub mod Questions

@@ -7,6 +7,7 @@ ghost use Rattle.forms.specs.Limits.{max_rows};
 ghost use Rattle.showing.specs.Showing.{Shown};
 
 use documents::nodes::Node;
+use drawn::Question;
 use drawn::steps::draw;
 use sets;
 use verdicts::prepared::Prepared;
@@ -36,5 +37,10 @@ pub fn show(prepared: &Prepared, pair: (u8, u8), nodes: &mut [Node]) -> Option<u
     if sets::test(&below, pair.0 as usize * n + pair.1 as usize) {
         return None;
     }
-    Some(draw(prepared, &leaned, &below, pair, nodes))
+    let question = Question {
+        prepared,
+        leaned: &leaned,
+        below: &below,
+    };
+    Some(draw(&question, pair, nodes))
 }

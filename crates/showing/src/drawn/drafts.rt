@@ -7,9 +7,10 @@ ghost use Rattle.forms.specs.Limits.{max_rows};
 ghost use Rattle.schema.specs.Rules.{OffersVoid};
 ghost use Rattle.verdicts.specs.Pairs.{related};
 ghost use Rattle.verdicts.specs.Reading.{ChannelTaken};
+ghost use Rattle.showing.specs.Questions.{rows_in, leaned_in, below_in};
 ghost use Rattle.showing.specs.Drafts.{noted, pair_place, lowest, element_node, lighting_row, lacking_row, difference_from, difference_of_rows, Through, ElementOf, ChannelOf, DiffersIn, ToldBy, Lights, Unlit, Tells, Untold, Drafts, Undrafted};
 
-use super::Drawn;
+use super::{Drawn, Question};
 use documents::nodes::Node;
 use forms::Row;
 use sets;
@@ -42,9 +43,14 @@ fn lacks_void(prepared: &Prepared, p: u8, q: u8) -> bool
 }
 
 // A channel row that row p offers and row q does not take within the set of pairs.
-fn untaken(prepared: &Prepared, below: &[u64], p: u8, q: u8) -> Option<u8>
-    ensures { MatchOption result ((c : ℕ) → ChannelOf (rows_of prepared.now.table) p c → ChannelTaken (rows_of prepared.now.table) (related (length (rows_of prepared.now.table)) below.now) c q) (λ c. ChannelOf (rows_of prepared.now.table) p c × (ChannelTaken (rows_of prepared.now.table) (related (length (rows_of prepared.now.table)) below.now) c q → ⊥)) }
+fn untaken(question: &Question, p: u8, q: u8) -> Option<u8>
+    ensures { MatchOption result ((c : ℕ) → ChannelOf (rows_in question.now) p c → ChannelTaken (rows_in question.now) (below_in question.now) c q) (λ c. ChannelOf (rows_in question.now) p c × (ChannelTaken (rows_in question.now) (below_in question.now) c q → ⊥)) }
 {
+    let Question {
+        prepared,
+        below,
+        ..
+    } = *question;
     prepared
         .channels_of(p)
         .find(|c| !prepared.takes_channel(below, *c, q))
@@ -190,36 +196,30 @@ impl Drawn {
     }
 
     // A node that fits row p and not row q.
-    fn tell(&self, prepared: &Prepared, below: &[u64], p: u8, q: u8) -> Option<Node>
-        ensures { MatchOption result (Untold (rows_of prepared.now.table) (related (length (rows_of prepared.now.table)) below.now) self.now.numbers p q) (λ v. Tells (rows_of prepared.now.table) (related (length (rows_of prepared.now.table)) below.now) self.now.numbers p q v) }
+    fn tell(&self, question: &Question, p: u8, q: u8) -> Option<Node>
+        ensures { MatchOption result (Untold (rows_in question.now) (below_in question.now) self.now.numbers p q) (λ v. Tells (rows_in question.now) (below_in question.now) self.now.numbers p q v) }
     {
-        if lacks_void(prepared, p, q) {
+        if lacks_void(question.prepared, p, q) {
             return Some(Node::Void);
         }
-        if let Some(c) = untaken(prepared, below, p, q) {
+        if let Some(c) = untaken(question, p, q) {
             return Some(Node::Reference(c));
         }
-        self.tell_element(prepared, p, q)
+        self.tell_element(question.prepared, p, q)
     }
 
     // A node for the row or the pair of rows at a place.
-    pub(crate) fn draft(
-        &self,
-        prepared: &Prepared,
-        leaned: &[u64],
-        below: &[u64],
-        place: usize,
-    ) -> Option<Node>
-        ensures { MatchOption result (Undrafted (rows_of prepared.now.table) (related (length (rows_of prepared.now.table)) leaned.now) (related (length (rows_of prepared.now.table)) below.now) self.now.numbers place) (λ v. Drafts (rows_of prepared.now.table) (related (length (rows_of prepared.now.table)) leaned.now) (related (length (rows_of prepared.now.table)) below.now) self.now.numbers place v) }
+    pub(crate) fn draft(&self, question: &Question, place: usize) -> Option<Node>
+        ensures { MatchOption result (Undrafted (rows_in question.now) (leaned_in question.now) (below_in question.now) self.now.numbers place) (λ v. Drafts (rows_in question.now) (leaned_in question.now) (below_in question.now) self.now.numbers place v) }
     {
-        let n = prepared.count();
+        let n = question.prepared.count();
         if place < n {
-            return self.light(prepared, place as u8);
+            return self.light(question.prepared, place as u8);
         }
         let k = place - n;
-        if !open(leaned, below, n, k) {
+        if !open(question.leaned, question.below, n, k) {
             return None;
         }
-        self.tell(prepared, below, (k / n) as u8, (k % n) as u8)
+        self.tell(question, (k / n) as u8, (k % n) as u8)
     }
 }

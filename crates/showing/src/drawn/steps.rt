@@ -1,14 +1,12 @@
 // Making nodes one after another, until the asked pair has one.
 ghost use Rattle.std.specs.Prelude.{◌≡◌, ◌+◌, ◌<◌, ◌≤◌, true, length, take, drop, replicate, ◌≢◌, slice_set, Some, None};
-ghost use Rattle.forms.specs.Buffers.{rows_of};
 ghost use Rattle.documents.specs.Limits.{max_nodes};
-ghost use Rattle.verdicts.specs.Pairs.{related};
 ghost use Rattle.showing.specs.Drawing.{Asked, places, Holds, Visited, Rounded};
+ghost use Rattle.showing.specs.Questions.{rows_in, leaned_in, below_in};
 ghost use Rattle.showing.specs.Showing.{Witnesses};
 
-use super::Drawn;
+use super::{Drawn, Question};
 use documents::nodes::{MAX_NODES, Node};
-use verdicts::prepared::Prepared;
 
 impl Drawn {
     // Nothing has a node.
@@ -37,23 +35,16 @@ impl Drawn {
     }
 
     // Makes a node for a place, if it has none and one can be made.
-    fn visit(
-        &mut self,
-        prepared: &Prepared,
-        leaned: &[u64],
-        below: &[u64],
-        nodes: &mut [Node],
-        place: usize,
-    ) -> bool
-        requires asked { Asked (rows_of prepared.now.table) (related (length (rows_of prepared.now.table)) leaned.now) (related (length (rows_of prepared.now.table)) below.now) }
-        requires holds { Holds (rows_of prepared.now.table) (related (length (rows_of prepared.now.table)) below.now) nodes.old self.old.used self.old.numbers }
-        requires within { place < places (rows_of prepared.now.table) }
-        ensures { Visited (rows_of prepared.now.table) (related (length (rows_of prepared.now.table)) leaned.now) (related (length (rows_of prepared.now.table)) below.now) place nodes.old nodes.new self.old.used self.new.used self.old.numbers self.new.numbers result }
+    fn visit(&mut self, question: &Question, nodes: &mut [Node], place: usize) -> bool
+        requires asked { Asked (rows_in question.now) (leaned_in question.now) (below_in question.now) }
+        requires holds { Holds (rows_in question.now) (below_in question.now) nodes.old self.old.used self.old.numbers }
+        requires within { place < places (rows_in question.now) }
+        ensures { Visited (rows_in question.now) (leaned_in question.now) (below_in question.now) place nodes.old nodes.new self.old.used self.new.used self.old.numbers self.new.numbers result }
     {
         if self.node(place).is_some() {
             return false;
         }
-        let Some(node) = self.draft(prepared, leaned, below, place) else {
+        let Some(node) = self.draft(question, place) else {
             return false;
         };
         self.add(nodes, place, node);
@@ -61,49 +52,36 @@ impl Drawn {
     }
 
     // The same for all places but one.
-    fn round(
-        &mut self,
-        prepared: &Prepared,
-        leaned: &[u64],
-        below: &[u64],
-        nodes: &mut [Node],
-        but: usize,
-    )
-        requires asked { Asked (rows_of prepared.now.table) (related (length (rows_of prepared.now.table)) leaned.now) (related (length (rows_of prepared.now.table)) below.now) }
-        requires holds { Holds (rows_of prepared.now.table) (related (length (rows_of prepared.now.table)) below.now) nodes.old self.old.used self.old.numbers }
-        ensures { Rounded (rows_of prepared.now.table) (related (length (rows_of prepared.now.table)) leaned.now) (related (length (rows_of prepared.now.table)) below.now) but (places (rows_of prepared.now.table)) nodes.old nodes.new self.old.used self.new.used self.old.numbers self.new.numbers }
+    fn round(&mut self, question: &Question, nodes: &mut [Node], but: usize)
+        requires asked { Asked (rows_in question.now) (leaned_in question.now) (below_in question.now) }
+        requires holds { Holds (rows_in question.now) (below_in question.now) nodes.old self.old.used self.old.numbers }
+        ensures { Rounded (rows_in question.now) (leaned_in question.now) (below_in question.now) but (places (rows_in question.now)) nodes.old nodes.new self.old.used self.new.used self.old.numbers self.new.numbers }
     {
-        let n = prepared.count();
+        let n = question.prepared.count();
         for k in 0..n * (n + 1) {
             if k != but {
-                self.visit(prepared, leaned, below, nodes, k);
+                self.visit(question, nodes, k);
             }
         }
     }
 }
 
 // Makes nodes until the pair has one, which is then the last.
-pub(crate) fn draw(
-    prepared: &Prepared,
-    leaned: &[u64],
-    below: &[u64],
-    pair: (u8, u8),
-    nodes: &mut [Node],
-) -> usize
-    requires asked { Asked (rows_of prepared.now.table) (related (length (rows_of prepared.now.table)) leaned.now) (related (length (rows_of prepared.now.table)) below.now) }
-    requires leans { (related (length (rows_of prepared.now.table)) leaned.now) pair.0 pair.1 ≡ true }
-    requires apart { (related (length (rows_of prepared.now.table)) below.now) pair.0 pair.1 ≢ true }
-    requires room { places (rows_of prepared.now.table) ≤ length nodes.old }
-    ensures few { result ≤ places (rows_of prepared.now.table) }
-    ensures shows { Witnesses (rows_of prepared.now.table) pair.0 pair.1 (take result nodes.new) }
+pub(crate) fn draw(question: &Question, pair: (u8, u8), nodes: &mut [Node]) -> usize
+    requires asked { Asked (rows_in question.now) (leaned_in question.now) (below_in question.now) }
+    requires leans { (leaned_in question.now) pair.0 pair.1 ≡ true }
+    requires apart { (below_in question.now) pair.0 pair.1 ≢ true }
+    requires room { places (rows_in question.now) ≤ length nodes.old }
+    ensures few { result ≤ places (rows_in question.now) }
+    ensures shows { Witnesses (rows_in question.now) pair.0 pair.1 (take result nodes.new) }
     ensures rest { drop result nodes.new ≡ drop result nodes.old }
     ensures same { length nodes.new ≡ length nodes.old }
 {
-    let n = prepared.count();
+    let n = question.prepared.count();
     let asked = n + (pair.0 as usize * n + pair.1 as usize);
     let mut drawn = Drawn::none();
-    while !drawn.visit(prepared, leaned, below, nodes, asked) {
-        drawn.round(prepared, leaned, below, nodes, asked);
+    while !drawn.visit(question, nodes, asked) {
+        drawn.round(question, nodes, asked);
     }
     drawn.used
 }

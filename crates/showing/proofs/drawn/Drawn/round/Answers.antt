@@ -10,9 +10,9 @@ use Rattle.showing.proofs.drawn.Drawn.round.Goals.{then-k-but, else-k-but}
 
 pub loop-k-preserved : goal.loop-k-preserved
 loop-k-preserved c =
-    let rows = rows_of c.args.prepared.now.table in
-    let leaned = related (length rows) c.args.leaned.now in
-    let below = related (length rows) c.args.below.now in
+    let rows = rows_of c.args.question.now.prepared.now.table in
+    let leaned = related (length rows) c.args.question.now.leaned.now in
+    let below = related (length rows) c.args.question.now.below.now in
     let k = c.loop-k.k in
     let before = c.args.nodes.now in
     let start = c.args.self.now in

@@ -6,5 +6,5 @@ use Rattle.showing.proofs.drawn.Drawn.round.Given as goal
 
 abbrev pub invariant-loop-k : goal.invariant-loop-k
 invariant-loop-k l =
-    Rounded (rows_of l.prepared.table) (related (length (rows_of l.prepared.table)) l.leaned) (related (length (rows_of l.prepared.table)) l.below) l.but l.k
+    Rounded (rows_of l.question.prepared.now.table) (related (length (rows_of l.question.prepared.now.table)) l.question.leaned.now) (related (length (rows_of l.question.prepared.now.table)) l.question.below.now) l.but l.k
     l.initial.nodes l.nodes l.initial.self.used l.self.used l.initial.self.numbers l.self.numbers

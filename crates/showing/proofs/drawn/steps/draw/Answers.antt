@@ -11,13 +11,13 @@ use Rattle.showing.proofs.drawn.steps.draw.Goals as goal
 
 pub loop-drawn-init : goal.loop-drawn-init
 loop-drawn-init c =
-    let rows = rows_of c.args.prepared.now.table in
+    let rows = rows_of c.args.question.now.prepared.now.table in
     let d = c.none-drawn.result in
-    waits_none rows (related (length rows) c.args.below.now) (pair_place c.count-n.result c.args.pair.0 c.args.pair.1) c.args.nodes.now d.used d.numbers max_nodes refl c.none-drawn.ensures.used c.none-drawn.ensures.numbers c.requires.room
+    waits_none rows (related (length rows) c.args.question.now.below.now) (pair_place c.count-n.result c.args.pair.0 c.args.pair.1) c.args.nodes.now d.used d.numbers max_nodes refl c.none-drawn.ensures.used c.none-drawn.ensures.numbers c.requires.room
 
 pub visit-requires : goal.visit-requires
 visit-requires c =
-    let rows = rows_of c.args.prepared.now.table in
+    let rows = rows_of c.args.question.now.prepared.now.table in
     let p = c.args.pair.0 in
     let q = c.args.pair.1 in
     let (p<, q<) = c.requires.asked.of_rows p q c.requires.leans in
@@ -29,33 +29,33 @@ visit-requires c =
 
 pub loop-drawn-smaller : goal.loop-drawn-smaller
 loop-drawn-smaller c =
-    let t = c.args.prepared.now in
+    let t = c.args.question.now.prepared.now in
     let rows = rows_of t.table in
     let d = c.loop-drawn.drawn in
     let v = c.visit.new.self in
     let w = c.round.new.self in
     let p = c.args.pair.0 in
     let q = c.args.pair.1 in
-    waits_less rows (related (length rows) c.args.leaned.now) (related (length rows) c.args.below.now) (pair_place c.count-n.result p q)
+    waits_less rows (related (length rows) c.args.question.now.leaned.now) (related (length rows) c.args.question.now.below.now) (pair_place c.count-n.result p q)
     c.args.nodes.now c.loop-drawn.nodes c.visit.new.nodes d.used v.used d.numbers v.numbers c.visit.result
     c.loop-drawn.invariant c.visit.ensures c.loop-drawn-test.true c.round.new.nodes w.used w.numbers c.round.ensures
     (bounded_of t) c.requires.asked p q (ap (λ n. pair_place n p q) c.count-n.ensures) c.requires.leans c.requires.apart
 
 pub loop-drawn-preserved : goal.loop-drawn-preserved
 loop-drawn-preserved c =
-    let rows = rows_of c.args.prepared.now.table in
+    let rows = rows_of c.args.question.now.prepared.now.table in
     let d = c.loop-drawn.drawn in
     let v = c.visit.new.self in
     let w = c.round.new.self in
-    waits_again rows (related (length rows) c.args.leaned.now) (related (length rows) c.args.below.now) (pair_place c.count-n.result c.args.pair.0 c.args.pair.1)
+    waits_again rows (related (length rows) c.args.question.now.leaned.now) (related (length rows) c.args.question.now.below.now) (pair_place c.count-n.result c.args.pair.0 c.args.pair.1)
     c.args.nodes.now c.loop-drawn.nodes c.visit.new.nodes d.used v.used d.numbers v.numbers c.visit.result
     c.loop-drawn.invariant c.visit.ensures c.loop-drawn-test.true c.round.new.nodes w.used w.numbers c.round.ensures
 
 pub returns : goal.returns
 returns c =
-    let rows = rows_of c.args.prepared.now.table in
-    let leaned = related (length rows) c.args.leaned.now in
-    let below = related (length rows) c.args.below.now in
+    let rows = rows_of c.args.question.now.prepared.now.table in
+    let leaned = related (length rows) c.args.question.now.leaned.now in
+    let below = related (length rows) c.args.question.now.below.now in
     let d = c.loop-drawn.drawn in
     let v = c.visit.new.self in
     let p = c.args.pair.0 in

@@ -5,7 +5,7 @@ use Rattle.showing.specs.Drawing.{places, Waits}
 use Rattle.showing.proofs.drawn.steps.draw.Given as goal
 
 abbrev pub invariant-loop-drawn : goal.invariant-loop-drawn
-invariant-loop-drawn l = Waits (rows_of l.prepared.table) (related (length (rows_of l.prepared.table)) l.below) l.asked l.initial.nodes l.nodes l.drawn.used l.drawn.numbers
+invariant-loop-drawn l = Waits (rows_of l.question.prepared.now.table) (related (length (rows_of l.question.prepared.now.table)) l.question.below.now) l.asked l.initial.nodes l.nodes l.drawn.used l.drawn.numbers
 
 abbrev pub decreases-loop-drawn : goal.decreases-loop-drawn
-decreases-loop-drawn l = places (rows_of l.prepared.table) - l.drawn.used
+decreases-loop-drawn l = places (rows_of l.question.prepared.now.table) - l.drawn.used
