@@ -1,11 +1,11 @@
 // Whether a table of nodes can be fitted.
 ghost use Rattle.std.specs.Prelude.{◌≡◌, Decides, MatchOption, MatchResult};
-ghost use Rattle.forms.specs.Buffers.{rows_of};
 ghost use Rattle.forms.specs.Places.{Lowest};
 ghost use Rattle.forms.specs.Schema.{IsChannel};
 ghost use Rattle.documents.specs.Nodes.{SoundWith, SoundOver};
 ghost use Rattle.fitting.specs.Faults.{fit_refusal};
 ghost use Rattle.fitting.specs.Fittable.{UnsoundOver, Fittable, Unfit, FittableOrOneFault};
+ghost use Rattle.verdicts.specs.Tables.{rows_in};
 
 use super::faults::FitFault;
 use documents::nodes::{MAX_NODES, Node};
@@ -15,14 +15,14 @@ use verdicts::prepared::Prepared;
 
 // Whether the row with that number is a channel row.
 pub(crate) fn is_channel(prepared: &Prepared, number: u8) -> bool
-    ensures { Decides result (IsChannel (rows_of prepared.now.table) number) }
+    ensures { Decides result (IsChannel (rows_in prepared.now) number) }
 {
     matches!(prepared.row(number), Some(Row::Channel(_, _)))
 }
 
 // Whether the node with number k points at lower nodes, has a label that there is, and refers to a channel row.
 fn sound(prepared: &Prepared, k: usize, node: Node) -> bool
-    ensures { Decides result (SoundWith (IsChannel (rows_of prepared.now.table)) k node) }
+    ensures { Decides result (SoundWith (IsChannel (rows_in prepared.now)) k node) }
 {
     match node {
         Node::Void => true,
@@ -37,7 +37,7 @@ fn sound(prepared: &Prepared, k: usize, node: Node) -> bool
 
 // The lowest node that is not sound.
 fn unsound(prepared: &Prepared, nodes: &[Node]) -> Option<usize>
-    ensures { MatchOption result (SoundOver (rows_of prepared.now.table) nodes.now) (λ k. Lowest (UnsoundOver (rows_of prepared.now.table) nodes.now) k) }
+    ensures { MatchOption result (SoundOver (rows_in prepared.now) nodes.now) (λ k. Lowest (UnsoundOver (rows_in prepared.now) nodes.now) k) }
 {
     for (k, node) in nodes.iter().enumerate() {
         if !sound(prepared, k, *node) {
@@ -49,7 +49,7 @@ fn unsound(prepared: &Prepared, nodes: &[Node]) -> Option<usize>
 
 // Whether a table of nodes can be fitted, or why not: the earlier case first.
 pub fn check(prepared: &Prepared, nodes: &[Node], root: usize, marks: usize) -> Result<(), FitFault>
-    ensures checked { MatchResult result (λ _. Fittable (rows_of prepared.now.table) nodes.now root marks) (λ e. Unfit (rows_of prepared.now.table) nodes.now root marks (fit_refusal e)) }
+    ensures checked { MatchResult result (λ _. Fittable (rows_in prepared.now) nodes.now root marks) (λ e. Unfit (rows_in prepared.now) nodes.now root marks (fit_refusal e)) }
     ensures one { FittableOrOneFault }
 {
     if nodes.len() > MAX_NODES {

@@ -1,7 +1,6 @@
 // Marking, for each node of a table, the rows that it fits.
 ghost use Rattle.std.specs.Prelude.{◌≡◌, ℕ, ◌+◌, ◌*◌, ◌<◌, ◌≤◌, length, IfOk, if◌then◌else◌, Decides, MatchResult, nat_eq};
 ghost use Rattle.sets.specs.Sets.{member};
-ghost use Rattle.forms.specs.Buffers.{rows_of};
 ghost use Rattle.forms.specs.Limits.{max_rows};
 ghost use Rattle.documents.specs.Limits.{max_nodes};
 ghost use Rattle.documents.specs.Nodes.{SoundOver};
@@ -11,6 +10,7 @@ ghost use Rattle.verdicts.specs.Ready.{in_row};
 ghost use Rattle.fitting.specs.Faults.{fit_refusal};
 ghost use Rattle.fitting.specs.Fittable.{row_words, Fittable, Unfit};
 ghost use Rattle.fitting.specs.Marks.{Among, FitsNode, Marked, TellsRoot};
+ghost use Rattle.verdicts.specs.Tables.{rows_in, count_in};
 
 use super::checking::check;
 use super::faults::FitFault;
@@ -27,8 +27,8 @@ fn node_rows(
     marks: &[u64],
     node: Node,
 ) -> [u64; ROW_WORDS]
-    requires { (r : ℕ) → Decides (member voids r) (OffersVoid (rows_of prepared.now.table) r) }
-    ensures { (r : ℕ) → Decides (member result r) (FitsNode (rows_of prepared.now.table) (Among (length (rows_of prepared.now.table)) pairs.now) (in_row marks.now) node r) }
+    requires { (r : ℕ) → Decides (member voids r) (OffersVoid (rows_in prepared.now) r) }
+    ensures { (r : ℕ) → Decides (member result r) (FitsNode (rows_in prepared.now) (Among (count_in prepared.now) pairs.now) (in_row marks.now) node r) }
 {
     match node {
         Node::Void => voids,
@@ -60,9 +60,9 @@ fn write_marks(marks: &mut [u64], node: usize, rows: &[u64; ROW_WORDS])
 // Marks for each node the rows that it fits.
 fn mark_nodes(prepared: &Prepared, pairs: &[u64], nodes: &[Node], marks: &mut [u64])
     requires few { length nodes.now ≤ max_nodes }
-    requires sound { SoundOver (rows_of prepared.now.table) nodes.now }
+    requires sound { SoundOver (rows_in prepared.now) nodes.now }
     requires room { length marks.old ≡ length nodes.now * row_words }
-    ensures { Marked (rows_of prepared.now.table) (Among (length (rows_of prepared.now.table)) pairs.now) nodes.now marks.new }
+    ensures { Marked (rows_in prepared.now) (Among (count_in prepared.now) pairs.now) nodes.now marks.new }
 {
     let voids = void_rows(prepared);
     for (i, node) in nodes.iter().enumerate() {
@@ -80,9 +80,9 @@ pub fn mark(
     row: u8,
     marks: &mut [u64],
 ) -> Result<bool, FitFault>
-    ensures checked { MatchResult result (λ _. Fittable (rows_of prepared.now.table) nodes.now root (length marks.old)) (λ e. Unfit (rows_of prepared.now.table) nodes.now root (length marks.old) (fit_refusal e)) }
-    ensures marked { MatchResult result (λ _. Marked (rows_of prepared.now.table) (Among (length (rows_of prepared.now.table)) pairs.now) nodes.now marks.new) (λ _. marks.new ≡ marks.old) }
-    ensures told { IfOk result (TellsRoot (rows_of prepared.now.table) (Among (length (rows_of prepared.now.table)) pairs.now) nodes.now root row) }
+    ensures checked { MatchResult result (λ _. Fittable (rows_in prepared.now) nodes.now root (length marks.old)) (λ e. Unfit (rows_in prepared.now) nodes.now root (length marks.old) (fit_refusal e)) }
+    ensures marked { MatchResult result (λ _. Marked (rows_in prepared.now) (Among (count_in prepared.now) pairs.now) nodes.now marks.new) (λ _. marks.new ≡ marks.old) }
+    ensures told { IfOk result (TellsRoot (rows_in prepared.now) (Among (count_in prepared.now) pairs.now) nodes.now root row) }
     ensures length { length marks.new ≡ length marks.old }
 {
     check(prepared, nodes, root, marks.len())?;

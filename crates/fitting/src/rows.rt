@@ -1,13 +1,13 @@
 // Sets of rows: those that something is found of.
-ghost use Rattle.std.specs.Prelude.{◌≡◌, ℕ, ◌*◌, ◌<◌, ◌≤◌, true, false, length, Decides};
+ghost use Rattle.std.specs.Prelude.{◌≡◌, ℕ, ◌*◌, ◌<◌, ◌≤◌, true, false, Decides};
 ghost use Rattle.std.specs.List.{slice_get};
 ghost use Rattle.sets.specs.Sets.{member, word, top};
-ghost use Rattle.forms.specs.Buffers.{rows_of};
 ghost use Rattle.forms.specs.Rows.{belongs};
 ghost use Rattle.forms.specs.Schema.{Offers, Inhabited, IsChannel};
 ghost use Rattle.schema.specs.Rules.{OffersVoid};
 ghost use Rattle.verdicts.specs.Ready.{in_row, IsElement};
 ghost use Rattle.fitting.specs.Marks.{Among, holds};
+ghost use Rattle.verdicts.specs.Tables.{rows_in, count_in};
 
 use super::wanting::row_count;
 use forms::{LABELS, Row};
@@ -33,21 +33,21 @@ pub(crate) fn numbers_where<const W: usize, F: Fn(usize) -> bool>(n: usize, pass
 
 // The rows that offer a void row.
 pub(crate) fn void_rows(prepared: &Prepared) -> [u64; ROW_WORDS]
-    ensures { (r : ℕ) → Decides (member result r) (OffersVoid (rows_of prepared.now.table) r) }
+    ensures { (r : ℕ) → Decides (member result r) (OffersVoid (rows_in prepared.now) r) }
 {
     numbers_where(row_count(prepared), |r| prepared.gives_void(r as u8))
 }
 
 // The rows that row c is paired with.
 pub(crate) fn paired_rows(prepared: &Prepared, pairs: &[u64], c: u8) -> [u64; ROW_WORDS]
-    ensures { (d : ℕ) → Decides (member result d) (Among (length (rows_of prepared.now.table)) pairs.now c d) }
+    ensures { (d : ℕ) → Decides (member result d) (Among (count_in prepared.now) pairs.now c d) }
 {
     numbers_where(row_count(prepared), |d| prepared.relates(pairs, c, d as u8))
 }
 
 // The rows that offer one of the channel rows.
 pub(crate) fn channel_rows(prepared: &Prepared, some: &[u64]) -> [u64; ROW_WORDS]
-    ensures { (r : ℕ) → Decides (member result r) ((d : ℕ) × Offers (rows_of prepared.now.table) r d × IsChannel (rows_of prepared.now.table) d × (member some.now d ≡ true)) }
+    ensures { (r : ℕ) → Decides (member result r) ((d : ℕ) × Offers (rows_in prepared.now) r d × IsChannel (rows_in prepared.now) d × (member some.now d ≡ true)) }
 {
     numbers_where(
         row_count(prepared),
@@ -57,7 +57,7 @@ pub(crate) fn channel_rows(prepared: &Prepared, some: &[u64]) -> [u64; ROW_WORDS
 
 // The rows that offer one of the inhabited element rows.
 pub(crate) fn element_rows(prepared: &Prepared, some: &[u64]) -> [u64; ROW_WORDS]
-    ensures { (r : ℕ) → Decides (member result r) ((e : ℕ) × Offers (rows_of prepared.now.table) r e × Inhabited (rows_of prepared.now.table) e × IsElement (rows_of prepared.now.table) e × (member some.now e ≡ true)) }
+    ensures { (r : ℕ) → Decides (member result r) ((e : ℕ) × Offers (rows_in prepared.now) r e × Inhabited (rows_in prepared.now) e × IsElement (rows_in prepared.now) e × (member some.now e ≡ true)) }
 {
     numbers_where(
         row_count(prepared),
@@ -97,7 +97,7 @@ pub(crate) fn holding_rows(
     label: u8,
     nodes: (u16, u16),
 ) -> [u64; ROW_WORDS]
-    ensures { (e : ℕ) → Decides (member result e) (holds (in_row marks.now) label nodes.0 nodes.1 (slice_get (rows_of prepared.now.table) e) ≡ true) }
+    ensures { (e : ℕ) → Decides (member result e) (holds (in_row marks.now) label nodes.0 nodes.1 (slice_get (rows_in prepared.now) e) ≡ true) }
 {
     numbers_where(
         row_count(prepared),

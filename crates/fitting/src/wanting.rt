@@ -1,12 +1,11 @@
 // Which pairs of rows decide where the references of a document fit.
 ghost use Rattle.std.specs.Prelude.{◌≡◌, ℕ, ◌*◌, ◌/◌, ◌%◌, ◌<◌, ◌≤◌, true, false, ◌⊎◌, length, Decides};
 ghost use Rattle.sets.specs.Sets.{member, word};
-ghost use Rattle.forms.specs.Buffers.{rows_of};
 ghost use Rattle.forms.specs.Limits.{max_rows};
 ghost use Rattle.forms.specs.Schema.{IsChannel};
 ghost use Rattle.documents.specs.declared.nodes.Node.TheVariants.{Reference};
-ghost use Rattle.verdicts.specs.Pairs.{related};
 ghost use Rattle.fitting.specs.Marks.{Referred};
+ghost use Rattle.verdicts.specs.Tables.{rows_in, count_in, related_in};
 
 use super::checking::is_channel;
 use super::rows::numbers_where;
@@ -18,7 +17,7 @@ use verdicts::prepared::deciding::PAIR_WORDS;
 
 // How many rows there are.
 pub(crate) fn row_count(prepared: &Prepared) -> usize
-    ensures is { result ≡ length (rows_of prepared.now.table) }
+    ensures is { result ≡ count_in prepared.now }
     ensures some { 0 < result }
     ensures few { result ≤ max_rows }
 {
@@ -48,15 +47,15 @@ fn referred(nodes: &[Node]) -> [u64; ROW_WORDS]
 // Whether the first row of the pair with that place is among the rows, and the second is a channel row.
 fn wants(prepared: &Prepared, rows: &[u64], n: usize, k: usize) -> bool
     requires { (0 < n) × (n ≤ max_rows) }
-    ensures { Decides result ((member rows.now (k / n) ≡ true) × IsChannel (rows_of prepared.now.table) (k % n)) }
+    ensures { Decides result ((member rows.now (k / n) ≡ true) × IsChannel (rows_in prepared.now) (k % n)) }
 {
     sets::test(rows, k / n) && is_channel(prepared, (k % n) as u8)
 }
 
 // The pairs of a row that a node refers to and a channel row.
 pub fn wanted(prepared: &Prepared, nodes: &[Node]) -> [u64; PAIR_WORDS]
-    ensures wanted { (a b : ℕ) → Decides (related (length (rows_of prepared.now.table)) result a b) ((a < length (rows_of prepared.now.table)) × Referred nodes.now a × IsChannel (rows_of prepared.now.table) b) }
-    ensures rest { (k : ℕ) → length (rows_of prepared.now.table) * length (rows_of prepared.now.table) ≤ k → member result k ≡ false }
+    ensures wanted { (a b : ℕ) → Decides (related_in prepared.now result a b) ((a < count_in prepared.now) × Referred nodes.now a × IsChannel (rows_in prepared.now) b) }
+    ensures rest { (k : ℕ) → count_in prepared.now * count_in prepared.now ≤ k → member result k ≡ false }
 {
     let rows = referred(nodes);
     let n = row_count(prepared);

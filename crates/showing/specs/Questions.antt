@@ -6,11 +6,11 @@ use Rattle.schema.specs.Rules.{Relation}
 use Rattle.verdicts.specs.Pairs.{related}
 use Rattle.showing.specs.declared.drawn.Question.{Question}
 
-abbrev pub rows_in : Question → List Row
-rows_in q = rows_of q.prepared.now.table
+abbrev pub rows_asked : Question → List Row
+rows_asked q = rows_of q.prepared.now.table
 
 abbrev pub leaned_in : Question → Relation
-leaned_in q = related (length (rows_in q)) q.leaned.now
+leaned_in q = related (length (rows_asked q)) q.leaned.now
 
 abbrev pub below_in : Question → Relation
-below_in q = related (length (rows_in q)) q.below.now
+below_in q = related (length (rows_asked q)) q.below.now

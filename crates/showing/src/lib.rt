@@ -2,9 +2,9 @@
 #![tactic(auto)]
 
 ghost use Rattle.std.specs.Prelude.{◌+◌, ◌*◌, ◌<◌, ◌≤◌, Decides};
-ghost use Rattle.forms.specs.Buffers.{rows_of};
 ghost use Rattle.forms.specs.Limits.{max_rows};
 ghost use Rattle.showing.specs.Showing.{Shown};
+ghost use Rattle.verdicts.specs.Tables.{rows_in};
 
 use documents::nodes::Node;
 use drawn::Question;
@@ -25,7 +25,7 @@ fn askable(n: usize, pair: (u8, u8), room: usize) -> bool
 // Writes an order that fits the first row of a pair and not the second, as a table of nodes whose last is its root, and answers how many nodes it has.
 // None, and no change, if there is none such, or where there is no room for one node a row and one node a pair of rows.
 pub fn show(prepared: &Prepared, pair: (u8, u8), nodes: &mut [Node]) -> Option<usize>
-    ensures { Shown (rows_of prepared.now.table) pair.0 pair.1 nodes.old nodes.new result }
+    ensures { Shown (rows_in prepared.now) pair.0 pair.1 nodes.old nodes.new result }
 {
     let n = prepared.count();
     if !askable(n, pair, nodes.len()) {

@@ -9,3 +9,4 @@ pub mod Asking
 pub mod Naming
 pub mod Reading
 pub mod RowSets
+pub mod Tables

@@ -1,14 +1,13 @@
 // The nodes that can be made of those that are there.
-ghost use Rattle.std.specs.Prelude.{◌≡◌, ℕ, ◌*◌, ◌<◌, ◌≤◌, true, false, length, Decides, MatchOption, ◌≢◌};
+ghost use Rattle.std.specs.Prelude.{◌≡◌, ℕ, ◌*◌, ◌<◌, ◌≤◌, true, false, Decides, MatchOption, ◌≢◌};
 ghost use Rattle.std.specs.List.{slice_get};
 ghost use Rattle.sets.specs.Sets.{member};
-ghost use Rattle.forms.specs.Buffers.{rows_of};
 ghost use Rattle.forms.specs.Limits.{max_rows};
 ghost use Rattle.schema.specs.Rules.{OffersVoid};
-ghost use Rattle.verdicts.specs.Pairs.{related};
 ghost use Rattle.verdicts.specs.Reading.{ChannelTaken};
-ghost use Rattle.showing.specs.Questions.{rows_in, leaned_in, below_in};
+ghost use Rattle.showing.specs.Questions.{rows_asked, leaned_in, below_in};
 ghost use Rattle.showing.specs.Drafts.{noted, pair_place, lowest, element_node, lighting_row, lacking_row, difference_from, difference_of_rows, Through, ElementOf, ChannelOf, DiffersIn, ToldBy, Lights, Unlit, Tells, Untold, Drafts, Undrafted};
+ghost use Rattle.verdicts.specs.Tables.{rows_in};
 
 use super::{Drawn, Question};
 use documents::nodes::Node;
@@ -36,15 +35,15 @@ fn element(label: Option<u8>, inside: Option<u16>, following: Option<u16>) -> Op
 
 // Whether row p offers a void row and row q does not.
 fn lacks_void(prepared: &Prepared, p: u8, q: u8) -> bool
-    ensures lacks { result ≡ true → OffersVoid (rows_of prepared.now.table) p × (OffersVoid (rows_of prepared.now.table) q → ⊥) }
-    ensures keeps { result ≡ false → OffersVoid (rows_of prepared.now.table) p → OffersVoid (rows_of prepared.now.table) q }
+    ensures lacks { result ≡ true → OffersVoid (rows_in prepared.now) p × (OffersVoid (rows_in prepared.now) q → ⊥) }
+    ensures keeps { result ≡ false → OffersVoid (rows_in prepared.now) p → OffersVoid (rows_in prepared.now) q }
 {
     prepared.gives_void(p) && !prepared.gives_void(q)
 }
 
 // A channel row that row p offers and row q does not take within the set of pairs.
 fn untaken(question: &Question, p: u8, q: u8) -> Option<u8>
-    ensures { MatchOption result ((c : ℕ) → ChannelOf (rows_in question.now) p c → ChannelTaken (rows_in question.now) (below_in question.now) c q) (λ c. ChannelOf (rows_in question.now) p c × (ChannelTaken (rows_in question.now) (below_in question.now) c q → ⊥)) }
+    ensures { MatchOption result ((c : ℕ) → ChannelOf (rows_asked question.now) p c → ChannelTaken (rows_asked question.now) (below_in question.now) c q) (λ c. ChannelOf (rows_asked question.now) p c × (ChannelTaken (rows_asked question.now) (below_in question.now) c q → ⊥)) }
 {
     let Question {
         prepared,
@@ -148,7 +147,7 @@ impl Drawn {
 
     // A node for one of the inhabited element rows that row r offers.
     fn lit_element(&self, prepared: &Prepared, r: u8) -> Option<Node>
-        ensures { Through (ElementOf (rows_of prepared.now.table) r) (λ e v. v ≡ lighting_row self.now.numbers (slice_get (rows_of prepared.now.table) e)) result }
+        ensures { Through (ElementOf (rows_in prepared.now) r) (λ e v. v ≡ lighting_row self.now.numbers (slice_get (rows_in prepared.now) e)) result }
     {
         prepared
             .elements_of(r)
@@ -157,7 +156,7 @@ impl Drawn {
 
     // A node that fits row r.
     fn light(&self, prepared: &Prepared, r: u8) -> Option<Node>
-        ensures { MatchOption result (Unlit (rows_of prepared.now.table) self.now.numbers r) (λ v. Lights (rows_of prepared.now.table) self.now.numbers r v) }
+        ensures { MatchOption result (Unlit (rows_in prepared.now) self.now.numbers r) (λ v. Lights (rows_in prepared.now) self.now.numbers r v) }
     {
         if prepared.gives_void(r) {
             return Some(Node::Void);
@@ -170,7 +169,7 @@ impl Drawn {
 
     // A node that fits an element row and not one of the inhabited element rows that row q offers.
     fn differ_in(&self, prepared: &Prepared, row: Option<Row>, q: u8) -> Option<Node>
-        ensures { DiffersIn (rows_of prepared.now.table) self.now.numbers q row result }
+        ensures { DiffersIn (rows_in prepared.now) self.now.numbers q row result }
     {
         let n = prepared.count();
         prepared
@@ -180,7 +179,7 @@ impl Drawn {
 
     // The same, or one with a label that none of those rows has.
     fn tell_row(&self, prepared: &Prepared, row: Option<Row>, q: u8) -> Option<Node>
-        ensures { ToldBy (rows_of prepared.now.table) self.now.numbers q row result }
+        ensures { ToldBy (rows_in prepared.now) self.now.numbers q row result }
     {
         self.lack_row(prepared.labels(q), row)
             .or_else(|| self.differ_in(prepared, row, q))
@@ -188,7 +187,7 @@ impl Drawn {
 
     // The same for one of the inhabited element rows that row p offers.
     fn tell_element(&self, prepared: &Prepared, p: u8, q: u8) -> Option<Node>
-        ensures { Through (ElementOf (rows_of prepared.now.table) p) (λ e v. ToldBy (rows_of prepared.now.table) self.now.numbers q (slice_get (rows_of prepared.now.table) e) v) result }
+        ensures { Through (ElementOf (rows_in prepared.now) p) (λ e v. ToldBy (rows_in prepared.now) self.now.numbers q (slice_get (rows_in prepared.now) e) v) result }
     {
         prepared
             .elements_of(p)
@@ -197,7 +196,7 @@ impl Drawn {
 
     // A node that fits row p and not row q.
     fn tell(&self, question: &Question, p: u8, q: u8) -> Option<Node>
-        ensures { MatchOption result (Untold (rows_in question.now) (below_in question.now) self.now.numbers p q) (λ v. Tells (rows_in question.now) (below_in question.now) self.now.numbers p q v) }
+        ensures { MatchOption result (Untold (rows_asked question.now) (below_in question.now) self.now.numbers p q) (λ v. Tells (rows_asked question.now) (below_in question.now) self.now.numbers p q v) }
     {
         if lacks_void(question.prepared, p, q) {
             return Some(Node::Void);
@@ -210,7 +209,7 @@ impl Drawn {
 
     // A node for the row or the pair of rows at a place.
     pub(crate) fn draft(&self, question: &Question, place: usize) -> Option<Node>
-        ensures { MatchOption result (Undrafted (rows_in question.now) (leaned_in question.now) (below_in question.now) self.now.numbers place) (λ v. Drafts (rows_in question.now) (leaned_in question.now) (below_in question.now) self.now.numbers place v) }
+        ensures { MatchOption result (Undrafted (rows_asked question.now) (leaned_in question.now) (below_in question.now) self.now.numbers place) (λ v. Drafts (rows_asked question.now) (leaned_in question.now) (below_in question.now) self.now.numbers place v) }
     {
         let n = question.prepared.count();
         if place < n {

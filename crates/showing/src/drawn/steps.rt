@@ -2,7 +2,7 @@
 ghost use Rattle.std.specs.Prelude.{◌≡◌, ◌+◌, ◌<◌, ◌≤◌, true, length, take, drop, replicate, ◌≢◌, slice_set, Some, None};
 ghost use Rattle.documents.specs.Limits.{max_nodes};
 ghost use Rattle.showing.specs.Drawing.{Asked, places, Holds, Visited, Rounded};
-ghost use Rattle.showing.specs.Questions.{rows_in, leaned_in, below_in};
+ghost use Rattle.showing.specs.Questions.{rows_asked, leaned_in, below_in};
 ghost use Rattle.showing.specs.Showing.{Witnesses};
 
 use super::{Drawn, Question};
@@ -36,10 +36,10 @@ impl Drawn {
 
     // Makes a node for a place, if it has none and one can be made.
     fn visit(&mut self, question: &Question, nodes: &mut [Node], place: usize) -> bool
-        requires asked { Asked (rows_in question.now) (leaned_in question.now) (below_in question.now) }
-        requires holds { Holds (rows_in question.now) (below_in question.now) nodes.old self.old.used self.old.numbers }
-        requires within { place < places (rows_in question.now) }
-        ensures { Visited (rows_in question.now) (leaned_in question.now) (below_in question.now) place nodes.old nodes.new self.old.used self.new.used self.old.numbers self.new.numbers result }
+        requires asked { Asked (rows_asked question.now) (leaned_in question.now) (below_in question.now) }
+        requires holds { Holds (rows_asked question.now) (below_in question.now) nodes.old self.old.used self.old.numbers }
+        requires within { place < places (rows_asked question.now) }
+        ensures { Visited (rows_asked question.now) (leaned_in question.now) (below_in question.now) place nodes.old nodes.new self.old.used self.new.used self.old.numbers self.new.numbers result }
     {
         if self.node(place).is_some() {
             return false;
@@ -53,9 +53,9 @@ impl Drawn {
 
     // The same for all places but one.
     fn round(&mut self, question: &Question, nodes: &mut [Node], but: usize)
-        requires asked { Asked (rows_in question.now) (leaned_in question.now) (below_in question.now) }
-        requires holds { Holds (rows_in question.now) (below_in question.now) nodes.old self.old.used self.old.numbers }
-        ensures { Rounded (rows_in question.now) (leaned_in question.now) (below_in question.now) but (places (rows_in question.now)) nodes.old nodes.new self.old.used self.new.used self.old.numbers self.new.numbers }
+        requires asked { Asked (rows_asked question.now) (leaned_in question.now) (below_in question.now) }
+        requires holds { Holds (rows_asked question.now) (below_in question.now) nodes.old self.old.used self.old.numbers }
+        ensures { Rounded (rows_asked question.now) (leaned_in question.now) (below_in question.now) but (places (rows_asked question.now)) nodes.old nodes.new self.old.used self.new.used self.old.numbers self.new.numbers }
     {
         let n = question.prepared.count();
         for k in 0..n * (n + 1) {
@@ -68,12 +68,12 @@ impl Drawn {
 
 // Makes nodes until the pair has one, which is then the last.
 pub(crate) fn draw(question: &Question, pair: (u8, u8), nodes: &mut [Node]) -> usize
-    requires asked { Asked (rows_in question.now) (leaned_in question.now) (below_in question.now) }
+    requires asked { Asked (rows_asked question.now) (leaned_in question.now) (below_in question.now) }
     requires leans { (leaned_in question.now) pair.0 pair.1 ≡ true }
     requires apart { (below_in question.now) pair.0 pair.1 ≢ true }
-    requires room { places (rows_in question.now) ≤ length nodes.old }
-    ensures few { result ≤ places (rows_in question.now) }
-    ensures shows { Witnesses (rows_in question.now) pair.0 pair.1 (take result nodes.new) }
+    requires room { places (rows_asked question.now) ≤ length nodes.old }
+    ensures few { result ≤ places (rows_asked question.now) }
+    ensures shows { Witnesses (rows_asked question.now) pair.0 pair.1 (take result nodes.new) }
     ensures rest { drop result nodes.new ≡ drop result nodes.old }
     ensures same { length nodes.new ≡ length nodes.old }
 {

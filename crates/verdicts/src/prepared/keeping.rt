@@ -1,12 +1,11 @@
 // Whether a pair of rows keeps the rules within a set of pairs.
-ghost use Rattle.std.specs.Prelude.{◌≡◌, ℕ, true, length, Decides};
+ghost use Rattle.std.specs.Prelude.{◌≡◌, ℕ, true, Decides};
 ghost use Rattle.std.specs.List.{slice_get};
-ghost use Rattle.forms.specs.Buffers.{rows_of};
 ghost use Rattle.forms.specs.Rows.{belongs};
 ghost use Rattle.schema.specs.Rules.{Keeps};
-ghost use Rattle.verdicts.specs.Pairs.{related};
 ghost use Rattle.verdicts.specs.Ready.{in_row};
 ghost use Rattle.verdicts.specs.Tests.{capable, takes, meeting, agrees_at, agrees, labels_at, RowTaken};
+ghost use Rattle.verdicts.specs.Tables.{rows_in, count_in, related_in};
 
 use super::super::rowsets::RowSet;
 use super::Prepared;
@@ -32,14 +31,14 @@ fn covers(all: u64, some: u64) -> bool
 impl Prepared {
     // How many rows there are.
     pub fn count(&self) -> usize
-        ensures { result ≡ length (rows_of self.now.table) }
+        ensures { result ≡ count_in self.now }
     {
         self.table.count()
     }
 
     // Whether the set has the pair.
     pub fn relates(&self, pairs: &[u64], p: u8, q: u8) -> bool
-        ensures { result ≡ related (length (rows_of self.now.table)) pairs.now p q }
+        ensures { result ≡ related_in self.now pairs.now p q }
     {
         let n = self.count();
         (p as usize) < n && (q as usize) < n && sets::test(pairs, p as usize * n + q as usize)
@@ -47,7 +46,7 @@ impl Prepared {
 
     // Whether a channel is below another: payloads of in channels compare forward, those of out channels backward, and of both both ways.
     fn channel_below(&self, pairs: &[u64], c: (Capability, u8), d: (Capability, u8)) -> bool
-        ensures { result ≡ capable c.0 d.0 (related (length (rows_of self.now.table)) pairs.now c.1 d.1) (related (length (rows_of self.now.table)) pairs.now d.1 c.1) }
+        ensures { result ≡ capable c.0 d.0 (related_in self.now pairs.now c.1 d.1) (related_in self.now pairs.now d.1 c.1) }
     {
         match (c.0, d.0) {
             (Capability::In | Capability::Both, Capability::In) if self.relates(pairs, c.1, d.1) =>
@@ -62,7 +61,7 @@ impl Prepared {
 
     // Whether row d is a channel row that the channel is below.
     fn takes(&self, pairs: &[u64], c: (Capability, u8), d: u8) -> bool
-        ensures { result ≡ takes (related (length (rows_of self.now.table)) pairs.now) c.0 c.1 (slice_get (rows_of self.now.table) d) }
+        ensures { result ≡ takes (related_in self.now pairs.now) c.0 c.1 (slice_get (rows_in self.now) d) }
     {
         match self.table.row(d) {
             Some(Row::Channel(capability, payload)) => self.channel_below(
@@ -76,7 +75,7 @@ impl Prepared {
 
     // Whether the parts of an element row are below those of row f, if that is an element row with a common label.
     fn agrees_at(&self, pairs: &[u64], labels: u64, parts: (u8, u8), f: u8) -> bool
-        ensures { result ≡ agrees_at (related (length (rows_of self.now.table)) pairs.now) labels parts.0 parts.1 (slice_get (rows_of self.now.table) f) }
+        ensures { result ≡ agrees_at (related_in self.now pairs.now) labels parts.0 parts.1 (slice_get (rows_in self.now) f) }
     {
         match self.table.row(f) {
             Some(
@@ -94,7 +93,7 @@ impl Prepared {
 
     // The same of two rows, of which the first is given.
     fn agrees(&self, pairs: &[u64], row: Option<Row>, f: u8) -> bool
-        ensures { result ≡ agrees (related (length (rows_of self.now.table)) pairs.now) row (slice_get (rows_of self.now.table) f) }
+        ensures { result ≡ agrees (related_in self.now pairs.now) row (slice_get (rows_in self.now) f) }
     {
         match row {
             Some(
@@ -124,7 +123,7 @@ impl Prepared {
 
     // Whether row q offers a channel row that the channel is below. The likeliest is asked first.
     fn taken(&self, pairs: &[u64], c: (Capability, u8), likely: u8, q: u8) -> bool
-        ensures { Decides result ((d : ℕ) × (in_row self.now.channels q d ≡ true) × (takes (related (length (rows_of self.now.table)) pairs.now) c.0 c.1 (slice_get (rows_of self.now.table) d) ≡ true)) }
+        ensures { Decides result ((d : ℕ) × (in_row self.now.channels q d ≡ true) × (takes (related_in self.now pairs.now) c.0 c.1 (slice_get (rows_in self.now) d) ≡ true)) }
     {
         if has(&self.channels, q as u16, likely) && self.takes(pairs, c, likely) {
             return true;
@@ -134,7 +133,7 @@ impl Prepared {
 
     // The same, of row c if it is a channel row.
     pub(crate) fn row_taken(&self, pairs: &[u64], c: u8, q: u8) -> bool
-        ensures { Decides result (RowTaken (rows_of self.now.table) (related (length (rows_of self.now.table)) pairs.now) (in_row self.now.channels q) c) }
+        ensures { Decides result (RowTaken (rows_in self.now) (related_in self.now pairs.now) (in_row self.now.channels q) c) }
     {
         match self.table.row(c) {
             Some(Row::Channel(capability, payload)) => self.taken(
@@ -149,21 +148,21 @@ impl Prepared {
 
     // The same, of all channel rows that row p offers.
     fn rows_taken(&self, pairs: &[u64], p: u8, q: u8) -> bool
-        ensures { Decides result ((c : ℕ) → in_row self.now.channels p c ≡ true → RowTaken (rows_of self.now.table) (related (length (rows_of self.now.table)) pairs.now) (in_row self.now.channels q) c) }
+        ensures { Decides result ((c : ℕ) → in_row self.now.channels p c ≡ true → RowTaken (rows_in self.now) (related_in self.now pairs.now) (in_row self.now.channels q) c) }
     {
         RowSet::of(&self.channels, p).all(|c| self.row_taken(pairs, c, q))
     }
 
     // Whether a row agrees with all inhabited element rows that row q offers.
     fn row_agrees(&self, pairs: &[u64], row: Option<Row>, q: u8) -> bool
-        ensures { Decides result ((f : ℕ) → in_row self.now.elements q f ≡ true → agrees (related (length (rows_of self.now.table)) pairs.now) row (slice_get (rows_of self.now.table) f) ≡ true) }
+        ensures { Decides result ((f : ℕ) → in_row self.now.elements q f ≡ true → agrees (related_in self.now pairs.now) row (slice_get (rows_in self.now) f) ≡ true) }
     {
         RowSet::of(&self.elements, q).all(|f| self.agrees(pairs, row, f))
     }
 
     // The same, of row e. If q offers it, no other that q offers has a label in common with it.
     fn element_agrees(&self, pairs: &[u64], e: u8, q: u8) -> bool
-        ensures { Decides result ((f : ℕ) → in_row self.now.elements q f ≡ true → agrees (related (length (rows_of self.now.table)) pairs.now) (slice_get (rows_of self.now.table) e) (slice_get (rows_of self.now.table) f) ≡ true) }
+        ensures { Decides result ((f : ℕ) → in_row self.now.elements q f ≡ true → agrees (related_in self.now pairs.now) (slice_get (rows_in self.now) e) (slice_get (rows_in self.now) f) ≡ true) }
     {
         let row = self.table.row(e);
         if has(&self.elements, q as u16, e) {
@@ -174,7 +173,7 @@ impl Prepared {
 
     // The same, of all inhabited element rows that row p offers.
     fn rows_agree(&self, pairs: &[u64], p: u8, q: u8) -> bool
-        ensures { Decides result ((e : ℕ) → in_row self.now.elements p e ≡ true → (f : ℕ) → in_row self.now.elements q f ≡ true → agrees (related (length (rows_of self.now.table)) pairs.now) (slice_get (rows_of self.now.table) e) (slice_get (rows_of self.now.table) f) ≡ true) }
+        ensures { Decides result ((e : ℕ) → in_row self.now.elements p e ≡ true → (f : ℕ) → in_row self.now.elements q f ≡ true → agrees (related_in self.now pairs.now) (slice_get (rows_in self.now) e) (slice_get (rows_in self.now) f) ≡ true) }
     {
         RowSet::of(&self.elements, p).all(|e| self.element_agrees(pairs, e, q))
     }
@@ -195,14 +194,14 @@ impl Prepared {
 
     // Whether it takes the channel rows that row p offers, and agrees with the element rows.
     fn parts_kept(&self, pairs: &[u64], p: u8, q: u8) -> bool
-        ensures { Decides result (((c : ℕ) → in_row self.now.channels p c ≡ true → RowTaken (rows_of self.now.table) (related (length (rows_of self.now.table)) pairs.now) (in_row self.now.channels q) c) × ((e : ℕ) → in_row self.now.elements p e ≡ true → (f : ℕ) → in_row self.now.elements q f ≡ true → agrees (related (length (rows_of self.now.table)) pairs.now) (slice_get (rows_of self.now.table) e) (slice_get (rows_of self.now.table) f) ≡ true)) }
+        ensures { Decides result (((c : ℕ) → in_row self.now.channels p c ≡ true → RowTaken (rows_in self.now) (related_in self.now pairs.now) (in_row self.now.channels q) c) × ((e : ℕ) → in_row self.now.elements p e ≡ true → (f : ℕ) → in_row self.now.elements q f ≡ true → agrees (related_in self.now pairs.now) (slice_get (rows_in self.now) e) (slice_get (rows_in self.now) f) ≡ true)) }
     {
         self.rows_taken(pairs, p, q) && self.rows_agree(pairs, p, q)
     }
 
     // Whether the pair keeps the rules within the set of pairs. A number outside the table offers nothing.
     pub fn keeps(&self, pair: (u8, u8), pairs: &[u64]) -> bool
-        ensures { Decides result (Keeps (rows_of self.now.table) (related (length (rows_of self.now.table)) pairs.now) pair.0 pair.1) }
+        ensures { Decides result (Keeps (rows_in self.now) (related_in self.now pairs.now) pair.0 pair.1) }
     {
         self.offers_kept(pair.0, pair.1) && self.parts_kept(pairs, pair.0, pair.1)
     }

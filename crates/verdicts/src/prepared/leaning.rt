@@ -2,13 +2,13 @@
 ghost use Rattle.std.specs.Prelude.{◌≡◌, ℕ, ◌*◌, ◌<◌, ◌≤◌, true, false, ◌⊎◌, length, Some, Decides, MatchOption};
 ghost use Rattle.std.specs.List.{slice_get};
 ghost use Rattle.sets.specs.Sets.{member, word};
-ghost use Rattle.forms.specs.Buffers.{rows_of};
 ghost use Rattle.forms.specs.Limits.{max_rows};
 ghost use Rattle.schema.specs.Rules.{Below, Included, Leans};
 ghost use Rattle.schema.specs.Theorems.{Confined};
 ghost use Rattle.verdicts.specs.Naming.{names_of_payloads, names_by_channel, names_by_element, named_by, place_of, NamedAt, NamedAmong, NamedWith, NamedFor, Noted, Pended};
-ghost use Rattle.verdicts.specs.Pairs.{related, Leaned};
+ghost use Rattle.verdicts.specs.Pairs.{Leaned};
 ghost use Rattle.verdicts.specs.Ready.{in_row};
+ghost use Rattle.verdicts.specs.Tables.{rows_in, count_in, related_in};
 
 use super::super::rowsets::RowSet;
 use super::Prepared;
@@ -99,7 +99,7 @@ fn pend(done: &[u64], pending: &mut [u64], place: Option<usize>)
 impl Prepared {
     // The place of a pair, if it is a pair of rows.
     fn place(&self, pair: Option<(u8, u8)>) -> Option<usize>
-        ensures is { result ≡ place_of (length (rows_of self.now.table)) pair }
+        ensures is { result ≡ place_of (count_in self.now) pair }
         ensures small { (k : ℕ) → result ≡ Some k → k < max_rows * max_rows }
     {
         let (p, q) = pair?;
@@ -114,7 +114,7 @@ impl Prepared {
     // Notes the pairs that the rules name for two rows.
     fn name_rows(&self, done: &[u64], pending: &mut [u64], c: Option<Row>, d: Option<Row>)
         requires { word * length pending.old ≡ max_rows * max_rows }
-        ensures { Pended (NamedAt (length (rows_of self.now.table)) c d) done.now pending.old pending.new }
+        ensures { Pended (NamedAt (count_in self.now) c d) done.now pending.old pending.new }
     {
         let (one, two) = named_by(c, d);
         pend(done, pending, self.place(one));
@@ -124,7 +124,7 @@ impl Prepared {
     // Notes the pairs that the rules name for a row and those in the set of row q.
     fn name_row(&self, cells: &[u64], done: &[u64], pending: &mut [u64], c: Option<Row>, q: u8)
         requires { word * length pending.old ≡ max_rows * max_rows }
-        ensures { Pended (λ k. (d : ℕ) × (in_row cells.now q d ≡ true) × NamedAt (length (rows_of self.now.table)) c (slice_get (rows_of self.now.table) d) k) done.now pending.old pending.new }
+        ensures { Pended (λ k. (d : ℕ) × (in_row cells.now q d ≡ true) × NamedAt (count_in self.now) c (slice_get (rows_in self.now) d) k) done.now pending.old pending.new }
     {
         for d in RowSet::of(cells, q) {
             self.name_rows(done, pending, c, self.table.row(d));
@@ -144,9 +144,9 @@ impl Prepared {
         requires space { word * length met.old ≡ max_rows * max_rows }
         requires first { pair.0 < max_rows }
         requires second { pair.1 < max_rows }
-        requires noted { Noted (rows_of self.now.table) cells.now met.old done.now pending.old }
-        ensures pended { Pended (NamedWith (rows_of self.now.table) cells.now pair.0 pair.1) done.now pending.old pending.new }
-        ensures noted { Noted (rows_of self.now.table) cells.now met.new done.now pending.new }
+        requires noted { Noted (rows_in self.now) cells.now met.old done.now pending.old }
+        ensures pended { Pended (NamedWith (rows_in self.now) cells.now pair.0 pair.1) done.now pending.old pending.new }
+        ensures noted { Noted (rows_in self.now) cells.now met.new done.now pending.new }
     {
         let (c, q) = pair;
         if !has(met, c as u16, q) {
@@ -167,9 +167,9 @@ impl Prepared {
         requires room { word * length pending.old ≡ max_rows * max_rows }
         requires space { word * length met.old ≡ max_rows * max_rows }
         requires second { pair.1 < max_rows }
-        requires noted { Noted (rows_of self.now.table) cells.now met.old done.now pending.old }
-        ensures pended { Pended (NamedAmong (rows_of self.now.table) (in_row cells.now pair.0) (in_row cells.now pair.1)) done.now pending.old pending.new }
-        ensures noted { Noted (rows_of self.now.table) cells.now met.new done.now pending.new }
+        requires noted { Noted (rows_in self.now) cells.now met.old done.now pending.old }
+        ensures pended { Pended (NamedAmong (rows_in self.now) (in_row cells.now pair.0) (in_row cells.now pair.1)) done.now pending.old pending.new }
+        ensures noted { Noted (rows_in self.now) cells.now met.new done.now pending.new }
     {
         for c in RowSet::of(cells, pair.0) {
             self.name_once(cells, done, pending, met, (c, pair.1));
@@ -188,9 +188,9 @@ impl Prepared {
         requires room { word * length pending.old ≡ max_rows * max_rows }
         requires space { (word * length links.old ≡ max_rows * max_rows) × (word * length parts.old ≡ max_rows * max_rows) }
         requires second { pair.1 < max_rows }
-        requires noted { Noted (rows_of self.now.table) self.now.channels links.old done.now pending.old × Noted (rows_of self.now.table) self.now.elements parts.old done.now pending.old }
-        ensures pended { Pended (NamedFor (rows_of self.now.table) pair.0 pair.1) done.now pending.old pending.new }
-        ensures noted { Noted (rows_of self.now.table) self.now.channels links.new done.now pending.new × Noted (rows_of self.now.table) self.now.elements parts.new done.now pending.new }
+        requires noted { Noted (rows_in self.now) self.now.channels links.old done.now pending.old × Noted (rows_in self.now) self.now.elements parts.old done.now pending.old }
+        ensures pended { Pended (NamedFor (rows_in self.now) pair.0 pair.1) done.now pending.old pending.new }
+        ensures noted { Noted (rows_in self.now) self.now.channels links.new done.now pending.new × Noted (rows_in self.now) self.now.elements parts.new done.now pending.new }
     {
         self.name_sets(&self.channels, done, pending, links, pair);
         self.name_sets(&self.elements, done, pending, parts, pair);
@@ -198,7 +198,7 @@ impl Prepared {
 
     // The lowest pair that is pending, by its place.
     fn lowest(&self, pending: &[u64]) -> Option<usize>
-        ensures { MatchOption result ((j : ℕ) → j < length (rows_of self.now.table) * length (rows_of self.now.table) → member pending.now j ≡ false) (λ k. (k < length (rows_of self.now.table) * length (rows_of self.now.table)) × (member pending.now k ≡ true)) }
+        ensures { MatchOption result ((j : ℕ) → j < count_in self.now * count_in self.now → member pending.now j ≡ false) (λ k. (k < count_in self.now * count_in self.now) × (member pending.now k ≡ true)) }
     {
         let n = self.count();
         sets::next(pending, 0).filter(|k| *k < n * n)
@@ -206,9 +206,9 @@ impl Prepared {
 
     // The pairs that the pairs of a set lean on.
     pub fn leaned_from(&self, starts: [u64; PAIR_WORDS]) -> [u64; PAIR_WORDS]
-        ensures leans { (a b : ℕ) → Decides (related (length (rows_of self.now.table)) result a b) (Leaned (rows_of self.now.table) starts a b) }
-        ensures confined { Confined (rows_of self.now.table) (related (length (rows_of self.now.table)) result) }
-        ensures rest { (k : ℕ) → length (rows_of self.now.table) * length (rows_of self.now.table) ≤ k → member result k ≡ false }
+        ensures leans { (a b : ℕ) → Decides (related_in self.now result a b) (Leaned (rows_in self.now) starts a b) }
+        ensures confined { Confined (rows_in self.now) (related_in self.now result) }
+        ensures rest { (k : ℕ) → count_in self.now * count_in self.now ≤ k → member result k ≡ false }
     {
         let n = self.count();
         let mut done = [0; PAIR_WORDS];
@@ -231,7 +231,7 @@ impl Prepared {
 
     // The pair alone, as a set; none, if it is no pair of rows.
     fn alone(&self, pair: (u8, u8)) -> [u64; PAIR_WORDS]
-        ensures { (k : ℕ) → Decides (member result k) (place_of (length (rows_of self.now.table)) (Some pair) ≡ Some k) }
+        ensures { (k : ℕ) → Decides (member result k) (place_of (count_in self.now) (Some pair) ≡ Some k) }
     {
         let mut pairs = [0; PAIR_WORDS];
         if let Some(k) = self.place(Some(pair)) {
@@ -242,19 +242,19 @@ impl Prepared {
 
     // The pairs that a pair of rows leans on; none, if it is no pair of rows.
     pub fn leaned(&self, pair: (u8, u8)) -> [u64; PAIR_WORDS]
-        ensures leans { pair.0 < length (rows_of self.now.table) → pair.1 < length (rows_of self.now.table) → (a b : ℕ) → Decides (related (length (rows_of self.now.table)) result a b) (Leans (rows_of self.now.table) pair.0 pair.1 a b) }
-        ensures confined { Confined (rows_of self.now.table) (related (length (rows_of self.now.table)) result) }
-        ensures outside { (length (rows_of self.now.table) ≤ pair.0) ⊎ (length (rows_of self.now.table) ≤ pair.1) → (k : ℕ) → member result k ≡ false }
-        ensures rest { (k : ℕ) → length (rows_of self.now.table) * length (rows_of self.now.table) ≤ k → member result k ≡ false }
+        ensures leans { pair.0 < count_in self.now → pair.1 < count_in self.now → (a b : ℕ) → Decides (related_in self.now result a b) (Leans (rows_in self.now) pair.0 pair.1 a b) }
+        ensures confined { Confined (rows_in self.now) (related_in self.now result) }
+        ensures outside { (count_in self.now ≤ pair.0) ⊎ (count_in self.now ≤ pair.1) → (k : ℕ) → member result k ≡ false }
+        ensures rest { (k : ℕ) → count_in self.now * count_in self.now ≤ k → member result k ≡ false }
     {
         self.leaned_from(self.alone(pair))
     }
 
     // Whether the first row of a pair is below the second, decided on the pairs that it leans on alone. No, if it is no pair of rows.
     pub fn below(&self, pair: (u8, u8)) -> bool
-        ensures below { pair.0 < length (rows_of self.now.table) → pair.1 < length (rows_of self.now.table) → Decides result (Below (rows_of self.now.table) pair.0 pair.1) }
-        ensures included { pair.0 < length (rows_of self.now.table) → pair.1 < length (rows_of self.now.table) → Decides result (Included (rows_of self.now.table) pair.0 pair.1) }
-        ensures outside { (length (rows_of self.now.table) ≤ pair.0) ⊎ (length (rows_of self.now.table) ≤ pair.1) → result ≡ false }
+        ensures below { pair.0 < count_in self.now → pair.1 < count_in self.now → Decides result (Below (rows_in self.now) pair.0 pair.1) }
+        ensures included { pair.0 < count_in self.now → pair.1 < count_in self.now → Decides result (Included (rows_in self.now) pair.0 pair.1) }
+        ensures outside { (count_in self.now ≤ pair.0) ⊎ (count_in self.now ≤ pair.1) → result ≡ false }
     {
         let mut pairs = self.leaned(pair);
         self.narrow(&mut pairs);

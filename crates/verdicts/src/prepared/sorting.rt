@@ -8,6 +8,7 @@ ghost use Rattle.relation.specs.Faults.{admission_refusal};
 ghost use Rattle.schema.specs.Theorems.{ReflexiveNeedsDetermined};
 ghost use Rattle.verdicts.specs.Ready.{in_row, labels_in, Labelling};
 ghost use Rattle.verdicts.specs.Sorting.{of_sort, picked};
+ghost use Rattle.verdicts.specs.Tables.{rows_in};
 
 use super::super::kinds::{Kind, is_kind};
 use super::super::rowsets::RowSet;
@@ -92,7 +93,7 @@ fn gather_labels(table: &RowBuffer, elements: &[u64]) -> [u64; MAX_ROWS]
 impl Prepared {
     // Prepares the table of a source, or says why it is not admitted. Where a label came twice, a row might not be below itself.
     pub fn of<S: FormSource>(source: &S) -> Result<Prepared, AdmissionFault>
-        ensures prepared { MatchResult result (λ t. (rows_of t.table ≡ S.FormSource.rows source.now) × Admitted (S.FormSource.rows source.now)) (λ e. Finds (S.FormSource.rows source.now) (admission_refusal e)) }
+        ensures prepared { MatchResult result (λ t. (rows_in t ≡ S.FormSource.rows source.now) × Admitted (S.FormSource.rows source.now)) (λ e. Finds (S.FormSource.rows source.now) (admission_refusal e)) }
         ensures needed { ReflexiveNeedsDetermined }
     {
         let analysis = admit(source)?;
