@@ -3,6 +3,10 @@ ghost use Rattle.std.specs.Prelude.{◌≡◌};
 ghost use Rattle.forms.specs.Refusals.{number};
 ghost use Rattle.fitting.specs.Faults.{fit_refusal};
 
+use documents::nodes::MAX_NODES;
+use std::error::Error;
+use std::fmt;
+
 #[derive(Clone, Copy, PartialEq, Eq, Debug)]
 pub enum FitFault {
     // more nodes than a table may have
@@ -27,3 +31,22 @@ impl FitFault {
         }
     }
 }
+
+impl fmt::Display for FitFault {
+    fn fmt<W: fmt::Write>(&self, f: &mut fmt::Formatter<W>) -> fmt::Result {
+        write!(f, "refused ({}): ", self.number())?;
+        match self {
+            FitFault::ManyNodes => write!(f, "there are more than {MAX_NODES} nodes"),
+            FitFault::Unsound { node } => write!(
+                f,
+                "node {node} is not sound: an element has a label up to 63 and points at two lower nodes, and a reference is to a channel row"
+            ),
+            FitFault::RootOutside => f.write_str("the root is not one of the nodes"),
+            FitFault::MarksLength => f.write_str(
+                "the marks have another length than the nodes take, which is one number a node",
+            ),
+        }
+    }
+}
+
+impl Error for FitFault {}
