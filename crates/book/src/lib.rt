@@ -5,6 +5,7 @@ pub mod calls;
 pub mod carrying;
 pub mod ledger;
 pub mod types;
+pub mod words;
 
 use forms::FormSource;
 use ledger::Ledger;

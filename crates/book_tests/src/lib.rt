@@ -11,3 +11,5 @@ mod replaying;
 mod shut;
 #[cfg(test)]
 mod tables;
+#[cfg(test)]
+mod words;

@@ -147,7 +147,8 @@ pub(crate) fn compared(
     let (first, second) = read_both(ours, theirs)?;
     check_both(&first, &second)?;
     let pair = numbers(p, q, &first, &second)?;
-    if t != 0 {
+    let turned = t != 0;
+    if turned {
         let second = Turned { source: second };
         ask(Joined { first, second }, pair, buffer)
     } else {

@@ -7,6 +7,7 @@ ghost use Rattle.compare.specs.Reasons.{OneFault, FaultOrAnswer, OneMeaning};
 
 pub mod comparing;
 pub mod faults;
+pub mod words;
 
 use comparing::{Finding, compared, number};
 use faults::CompareFault;

@@ -1,6 +1,12 @@
 // Answers to questions, with what the buffer holds then.
-use compare::compare;
+use book::types::BookFault;
+use compare::comparing::Finding;
+use compare::faults::{CompareFault, JoinFault, Side};
+use compare::{compare, question};
+use relation::AdmissionFault;
+use std::alloc::Global;
 use std::process::Abort;
+use std::test::Fail;
 
 const ONE: &[u8] = b"V,,,\nE,0000000000000002,0,0\n";
 
@@ -23,13 +29,8 @@ fn gives(
     let mut buffer = [7u8; 8];
     let found = compare(tables.0, tables.1, asked.0, asked.1, asked.2, &mut buffer);
     assert_eq!(rt; found, number);
-    for k in 0..8 {
-        let byte = match text.get(k) {
-            Some(byte) => *byte,
-            None => 7,
-        };
-        assert_eq!(rt; buffer[k], byte);
-    }
+    assert!(rt; buffer.starts_with(text));
+    assert!(rt; buffer.iter().skip(text.len()).all(|byte| *byte == 7));
 }
 
 #[test]
@@ -70,8 +71,8 @@ fn tables_not_admitted(rt: HostRuntime) {
 
 // Fills a text with void rows.
 fn fill(text: &mut [u8]) {
-    for k in 0..text.len() {
-        text[k] = b"V,,,\n"[k % 5];
+    for line in text.chunks_exact_mut(5) {
+        line.copy_from_slice(b"V,,,\n");
     }
 }
 
@@ -111,4 +112,46 @@ fn no_room(rt: HostRuntime) {
     let mut three = [7u8; 3];
     assert_eq!(rt; compare(TWO, ONE, 1, 1, 0, &mut three), 196609);
     assert_eq!(rt; three, *b"2[]");
+}
+
+#[test]
+fn found(rt: HostRuntime) {
+    let mut buffer = [7u8; 4];
+    assert_eq!(rt; question(ONE, TWO, 1, 1, 0, &mut buffer), Ok(Finding::Yes));
+    assert_eq!(rt; buffer, [7; 4]);
+    assert_eq!(rt;
+        question(TWO, ONE, 1, 1, 0, &mut buffer),
+        Ok(Finding::No { length: 3 })
+    );
+    assert_eq!(rt; &buffer, b"2[]\x07");
+    let fault = CompareFault::Admission(Side::Ours, AdmissionFault::NoRows);
+    assert_eq!(rt; question(b"", b"", 9, 9, 0, &mut buffer), Err(fault));
+}
+
+fn reads(rt: &impl Abort, alloc: Global, fault: CompareFault, words: &str) -> Result<(), Fail> {
+    let text = format!(in alloc; "{fault}")?;
+    assert_eq!(rt; text.as_str(), words);
+    Ok(())
+}
+
+#[test]
+fn words(rt: HostRuntime) -> Result<(), Fail> {
+    reads(
+        &rt,
+        rt.alloc(),
+        CompareFault::Admission(Side::Theirs, AdmissionFault::NoRows),
+        "no answer: their table: the table is not admitted (11): it has no rows",
+    )?;
+    reads(
+        &rt,
+        rt.alloc(),
+        CompareFault::Joining(JoinFault::TooManyRows),
+        "no answer (10): the two tables have more than 64 rows together",
+    )?;
+    reads(
+        &rt,
+        rt.alloc(),
+        CompareFault::Asking(Side::Ours, BookFault::RowOutside),
+        "no answer (21): our table has no row with the number that was asked about",
+    )
 }

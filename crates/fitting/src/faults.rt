@@ -1,7 +1,10 @@
 // Why the nodes of a document are not fitted.
 ghost use Rattle.fitting.specs.Faults.{fit_refusal};
 
+use documents::nodes::MAX_NODES;
 use forms::refusals::Refused;
+use std::error::Error;
+use std::fmt;
 
 #[derive(Clone, Copy, PartialEq, Eq, Debug)]
 pub enum FitFault {
@@ -27,3 +30,22 @@ impl Refused for FitFault {
         }
     }
 }
+
+impl fmt::Display for FitFault {
+    fn fmt<W: fmt::Write>(&self, f: &mut fmt::Formatter<W>) -> fmt::Result {
+        write!(f, "refused ({}): ", self.number())?;
+        match self {
+            FitFault::ManyNodes => write!(f, "there are more than {MAX_NODES} nodes"),
+            FitFault::Unsound { node } => write!(
+                f,
+                "node {node} is not sound: an element has a label up to 63 and points at two lower nodes, and a reference is to a channel row"
+            ),
+            FitFault::RootOutside => f.write_str("the root is not one of the nodes"),
+            FitFault::MarksLength => f.write_str(
+                "the marks have another length than the nodes take, which is one number a node",
+            ),
+        }
+    }
+}
+
+impl Error for FitFault {}

@@ -10,6 +10,9 @@ pub mod analysis;
 pub mod inhabiting;
 pub mod offering;
 
+use std::error::Error;
+use std::fmt;
+
 // Why a table is not admitted.
 #[derive(Clone, Copy, PartialEq, Eq, Debug)]
 pub enum AdmissionFault {
@@ -32,3 +35,22 @@ impl Refused for AdmissionFault {
         }
     }
 }
+
+impl fmt::Display for AdmissionFault {
+    fn fmt<W: fmt::Write>(&self, f: &mut fmt::Formatter<W>) -> fmt::Result {
+        write!(f, "the table is not admitted ({}): ", self.number())?;
+        match self {
+            AdmissionFault::NoRows => f.write_str("it has no rows"),
+            AdmissionFault::NumberOutside { row } => write!(
+                f,
+                "row {row} has a number that is not that of a row"
+            ),
+            AdmissionFault::LabelTwice { row } => write!(
+                f,
+                "row {row} offers two different inhabited element rows with a common label"
+            ),
+        }
+    }
+}
+
+impl Error for AdmissionFault {}

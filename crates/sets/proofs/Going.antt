@@ -52,6 +52,14 @@ module _ {S : Type 0} (has : S → ℕ → Bool) (start : S → ℕ) where
         (cases_lt x k))
         (cases_lt k x)
 
+  -- one step through the set that f is the test of
+  module _ (f : ℕ → Bool) (s t : S) (same : (o : ℕ) → has s o ≡ f o) where
+    pub step_found : (o : ℕ) → GoesOn has start s (Some o) t → (start s ≤ o) × (f o ≡ true) × ((j : ℕ) → start s ≤ j → j < o → f j ≡ false)
+    step_found o step = let (from, there, skip) = step.next in (from, sym (same o) ∙ there, λ j low less. sym (same j) ∙ skip j low less)
+
+    pub step_missing : GoesOn has start s None t → (j : ℕ) → start s ≤ j → f j ≡ false
+    step_missing step j low = sym (same j) ∙ step.next j low
+
   -- from the start on, of a set that f is the test of
   module _ (f : ℕ → Bool) {s : S} (zero : start s ≡ 0) (same : (k : ℕ) → has s k ≡ f k) where
     -- whether some member passes

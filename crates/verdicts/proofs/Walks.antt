@@ -81,11 +81,3 @@ module _ (f : ℕ → Bool) where
 
     pub passed_all : (from : ℕ) → Missing from → Passed from → (e : ℕ) → f e ≡ true → P e
     passed_all from none passed e m = passed e (walk_end from none e m) m
-
--- a step through the set of which f is the test
-module _ (f : ℕ → Bool) (s t : RowSet) (same : (o : ℕ) → row_set s o ≡ f o) where
-  pub step_found : (o : ℕ) → GoesOn row_set (λ s. s.start) s (Some o) t → Found f s.start o
-  step_found o step = let (from, there, skip) = step.next in (from, sym (same o) ∙ there, λ j low less. sym (same j) ∙ skip j low less)
-
-  pub step_missing : GoesOn row_set (λ s. s.start) s None t → Missing f s.start
-  step_missing step j low = sym (same j) ∙ step.next j low

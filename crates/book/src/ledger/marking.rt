@@ -19,6 +19,7 @@ use fitting::checking::check;
 use fitting::marking::mark;
 use fitting::wanting::wanted;
 use sets;
+use sets::Members;
 use verdicts::prepared::deciding::PAIR_WORDS;
 
 impl Ledger {
@@ -26,14 +27,7 @@ impl Ledger {
     fn is_settled(&self, pairs: &[u64]) -> bool
         ensures { result ≡ true → (k : ℕ) → member pairs.now k ≡ true → member self.now.settled k ≡ true }
     {
-        let mut from = 0;
-        while let Some(k) = sets::next(pairs, from) {
-            if !sets::test(&self.settled, k) {
-                return false;
-            }
-            from = k + 1;
-        }
-        true
+        Members::of(pairs).all(|k| sets::test(&self.settled, k))
     }
 
     // Holds all that the pairs of a set lean on, and answers how many pairs are new.

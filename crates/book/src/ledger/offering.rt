@@ -15,6 +15,7 @@ use super::super::types::BookFault;
 use super::Ledger;
 use super::telling::numbers_for;
 use sets;
+use sets::Members;
 use verdicts::prepared::Prepared;
 use verdicts::prepared::deciding::PAIR_WORDS;
 
@@ -47,13 +48,11 @@ impl Ledger {
         ensures { MatchOption result (Closed (ledger_rows self.now) (related (length (ledger_rows self.now)) relation.now)) (λ pair. Breaks (ledger_rows self.now) relation.now pair.0 pair.1) }
     {
         let n = self.prepared.count();
-        let mut from = 0;
-        while let Some(k) = sets::next(relation, from) {
+        for k in Members::of(relation) {
             let pair = ((k / n) as u8, (k % n) as u8);
             if !self.prepared.keeps(pair, relation) {
                 return Some(pair);
             }
-            from = k + 1;
         }
         None
     }

@@ -45,7 +45,7 @@ impl Ledger {
             return Ok((self.verdict(pair), 0));
         }
         self.in_table(pair)?;
-        let leaned = self.prepared.leaned_once(pair);
+        let leaned = self.prepared.leaned(pair);
         let new = self.settle(leaned);
         Ok((self.verdict(pair), new))
     }

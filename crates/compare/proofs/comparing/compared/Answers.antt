@@ -17,15 +17,15 @@ returns-in_err-pair c = inl (refused _ _ _ _ _ _ _ c.from_residual-in_err-pair.e
 pub ask-requires-clause-admitted : goal.ask-requires-clause-admitted
 ask-requires-clause-admitted c = turned_admitted _ _ c.in_ok-check_both.ensures
 
-pub ask-requires-else-t-ne0-clause-admitted : goal.ask-requires-else-t-ne0-clause-admitted
-ask-requires-else-t-ne0-clause-admitted c = join_admitted _ _ c.in_ok-check_both.ensures
+pub ask-requires-else-turned-clause-admitted : goal.ask-requires-else-turned-clause-admitted
+ask-requires-else-turned-clause-admitted c = join_admitted _ _ c.in_ok-check_both.ensures
 
-pub returns-then-t-ne0 : goal.returns-then-t-ne0
-returns-then-t-ne0 c =
+pub returns-then-turned : goal.returns-then-turned
+returns-then-turned c =
     let b = text_rows c.in_ok-first.second in
-    inr (settled _ b c.in_ok-check_both.ensures _ _ _ _ c.in_ok-pair.ensures _ _ c.in_ok-first.ensures c.args.t (map turn b) (facing_turned c.args.t b c.if-t-ne0.true) _ _ _ c.ask.ensures)
+    inr (settled _ b c.in_ok-check_both.ensures _ _ _ _ c.in_ok-pair.ensures _ _ c.in_ok-first.ensures c.args.t (map turn b) (facing_turned c.args.t b c.if-turned.true) _ _ _ c.ask.ensures)
 
-pub returns-else-t-ne0 : goal.returns-else-t-ne0
-returns-else-t-ne0 c =
+pub returns-else-turned : goal.returns-else-turned
+returns-else-turned c =
     let b = text_rows c.in_ok-first.second in
-    inr (settled _ b c.in_ok-check_both.ensures _ _ _ _ c.in_ok-pair.ensures _ _ c.in_ok-first.ensures c.args.t b (facing_same c.args.t b c.if-t-ne0.false) _ _ _ c.ask-else-t-ne0.ensures)
+    inr (settled _ b c.in_ok-check_both.ensures _ _ _ _ c.in_ok-pair.ensures _ _ c.in_ok-first.ensures c.args.t b (facing_same c.args.t b c.if-turned.false) _ _ _ c.ask-else-turned.ensures)

@@ -24,8 +24,8 @@ returns c =
     let rows = ledger_rows l in
     let p = c.args.pair.0 in
     let q = c.args.pair.1 in
-    let leaned = c.leaned_once-leaned.result in
-    let leans = c.leaned_once-leaned.ensures.leans (omega arith) (omega arith) in
+    let leaned = c.leaned-leaned.result in
+    let leans = c.leaned-leaned.ensures.leans (omega arith) (omega arith) in
     let l' = c.settle-new.new.self in
     asked_done l l' c.settle-new.ensures.table p q c.settle-new.result _ (omega arith) (omega arith)
     (grew_same rows (λ a b. related (length rows) leaned a b ≡ true) (Leans rows p q) l.held l'.held c.settle-new.result (λ a b. (leans a b).0) (λ a b. (leans a b).1) c.settle-new.ensures.grew) c.verdict-2.ensures

@@ -1,13 +1,15 @@
-use Rattle.std.proofs.Common.{◌≡◌, ℕ, ◌*◌, ◌/◌, ◌%◌, ◌<◌, ◌≤◌, true, false, List, length, sym, subst, ⊎_elim, arith}
+use Rattle.std.proofs.Common.{◌≡◌, ℕ, ◌*◌, ◌/◌, ◌%◌, ◌<◌, ◌≤◌, true, false, List, length, sym, ap, ◌∙◌, subst, ⊎_elim, arith}
 use Rattle.std.proofs.lemmas.Nat.{div_below, mod_below}
 use Rattle.std.proofs.lemmas.Bool.{both_ways, cases_lt}
 use Rattle.sets.specs.Sets.{member}
+use Rattle.sets.specs.declared.Members.{Members}
+use Rattle.sets.proofs.Going.{step_found, step_missing}
 use Rattle.forms.specs.Laws.{buffer_laws}
 use Rattle.forms.specs.Limits.{max_rows}
 use Rattle.schema.specs.Rules.{Keeps}
 use Rattle.verdicts.specs.Facts.{admitted_of}
 use Rattle.verdicts.specs.Pairs.{related}
-use Rattle.verdicts.proofs.Walks.{passed_none, passed_more, passed_all}
+use Rattle.verdicts.proofs.Walks.{Passed, passed_none, passed_more, passed_all}
 use Rattle.book.specs.Ledgers.{ledger_rows}
 use Rattle.book.specs.Relations.{Breaks}
 use Rattle.book.specs.declared.ledger.Ledger.{Ledger}
@@ -35,11 +37,12 @@ overflow_cast-pair c =
     let l = c.args.self.now in
     let n = c.count-n.result in
     let few = few_rows l n c.count-n.ensures in
-    let low = div_below c.in-Some.k n n (some_rows l n c.count-n.ensures) (subst (λ m. c.in-Some.k < m * m) (sym c.count-n.ensures) (low_place c.args.relation.now _ c.in-Some.k c.requires c.in-Some.ensures.1)) in
+    let on = sym (c.loop-k.invariant.set c.in-Some.k) ∙ c.in-Some.ensures.steps.next.1 in
+    let low = div_below c.in-Some.k n n (some_rows l n c.count-n.ensures) (subst (λ m. c.in-Some.k < m * m) (sym c.count-n.ensures) (low_place c.args.relation.now _ c.in-Some.k c.requires on)) in
     omega arith
 
-pub overflow_cast-pair-in-Some : goal.overflow_cast-pair-in-Some
-overflow_cast-pair-in-Some c =
+pub overflow_cast-pair-in-loop-k : goal.overflow_cast-pair-in-loop-k
+overflow_cast-pair-in-loop-k c =
     let l = c.args.self.now in
     let n = c.count-n.result in
     let few = few_rows l n c.count-n.ensures in
@@ -47,22 +50,28 @@ overflow_cast-pair-in-Some c =
     omega arith
 
 pub loop-k-init : goal.loop-k-init
-loop-k-init c = passed_none (member c.args.relation.now) (Stands (ledger_rows c.args.self.now) c.args.relation.now)
+loop-k-init c =
+    let is = c.into_iter-k-iterator.ensures.into_iter_gives in
+    let Goal : ℕ → Type 0 = Passed (member c.args.relation.now) (Stands (ledger_rows c.args.self.now) c.args.relation.now) in
+    record {
+      set = λ j. ap (λ (s : Members). member s.words.now j) is ∙ ap (λ ws. member ws j) c.of-k-items.ensures.set;
+      passed = subst Goal (sym (ap (λ (s : Members). s.start) is ∙ c.of-k-items.ensures.start)) (passed_none (member c.args.relation.now) (Stands (ledger_rows c.args.self.now) c.args.relation.now));
+    }
 
 pub loop-k-preserved : goal.loop-k-preserved
 loop-k-preserved c =
     let l = c.args.self.now in
     let words = c.args.relation.now in
     let k = c.in-Some.k in
-    passed_more (member words) (Stands (ledger_rows l) words) c.loop-k.from k c.in-Some.ensures c.loop-k.invariant
-    (subst (λ m. Keeps (ledger_rows l) (related (length (ledger_rows l)) words) (k / m) (k % m)) c.count-n.ensures (c.keeps.ensures.0 c.if-not-keeps.false))
-
-pub loop-k-smaller : goal.loop-k-smaller
-loop-k-smaller c =
-    let low = low_place c.args.relation.now _ c.in-Some.k c.requires c.in-Some.ensures.1 in
-    let small : c.in-Some.k < c.count-n.result * c.count-n.result = subst (λ m. c.in-Some.k < m * m) (sym c.count-n.ensures) low in
-    let from = c.in-Some.ensures.0 in
-    omega arith
+    let s = c.loop-k.k-iterator in
+    let step = c.in-Some.ensures.steps in
+    let set = c.loop-k.invariant.set in
+    record {
+      set = λ j. step.same j ∙ set j;
+      passed = subst (Passed (member words) (Stands (ledger_rows l) words)) (sym step.behind)
+          (passed_more (member words) (Stands (ledger_rows l) words) s.start k (step_found (λ s. member s.words.now) (λ s. s.start) (member words) s c.next.new.self set k step) c.loop-k.invariant.passed
+          (subst (λ m. Keeps (ledger_rows l) (related (length (ledger_rows l)) words) (k / m) (k % m)) c.count-n.ensures (c.keeps.ensures.0 c.if-not-keeps.false)));
+    }
 
 pub returns-then-not-keeps : goal.returns-then-not-keeps
 returns-then-not-keeps c =
@@ -70,14 +79,18 @@ returns-then-not-keeps c =
     let rows = ledger_rows l in
     let words = c.args.relation.now in
     let k = c.in-Some.k in
-    let low = low_place words _ k c.requires c.in-Some.ensures.1 in
+    let s = c.loop-k.k-iterator in
+    let (from, on, skip) = step_found (λ s. member s.words.now) (λ s. s.start) (member words) s c.next.new.self c.loop-k.invariant.set k c.in-Some.ensures.steps in
+    let low = low_place words _ k c.requires on in
     let broken : Stands rows words k → ⊥ = λ keeps. both_ways _ c.if-not-keeps.true (c.keeps.ensures.1 (subst (λ m. Keeps rows (related (length rows) words) (k / m) (k % m)) (sym c.count-n.ensures) keeps)) in
     subst (λ m. Breaks rows words (k / m) (k % m)) (sym c.count-n.ensures)
-    (first_breaks rows words (admitted_of l.prepared).some k low c.in-Some.ensures.1 broken
-    (λ j less on. c.loop-k.invariant j (⊎_elim (λ h. h) (λ ge. absurd (both_ways _ (c.in-Some.ensures.2 j ge less) on)) (cases_lt j c.loop-k.from)) on))
+    (first_breaks rows words (admitted_of l.prepared).some k low on broken
+    (λ j less there. c.loop-k.invariant.passed j (⊎_elim (λ h. h) (λ ge. absurd (both_ways _ (skip j ge less) there)) (cases_lt j s.start)) there))
 
 pub returns : goal.returns
 returns c =
     let l = c.args.self.now in
     let words = c.args.relation.now in
-    all_keep (ledger_rows l) words (admitted_of l.prepared).some (passed_all (member words) (Stands (ledger_rows l) words) c.loop-k.from c.in_default.ensures c.loop-k.invariant)
+    let s = c.loop-k.k-iterator in
+    all_keep (ledger_rows l) words (admitted_of l.prepared).some
+    (passed_all (member words) (Stands (ledger_rows l) words) s.start (step_missing (λ s. member s.words.now) (λ s. s.start) (member words) s c.next.new.self c.loop-k.invariant.set c.in-None.ensures.steps) c.loop-k.invariant.passed)

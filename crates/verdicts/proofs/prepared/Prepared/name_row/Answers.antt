@@ -6,7 +6,7 @@ use Rattle.verdicts.specs.Ready.{in_row}
 use Rattle.verdicts.specs.RowSets.{row_set}
 use Rattle.verdicts.specs.declared.rowsets.RowSet.{RowSet}
 use Rattle.verdicts.proofs.Pending.{Noting, noting_none, noting_more, noting_all}
-use Rattle.verdicts.proofs.Walks.{step_found, step_missing}
+use Rattle.sets.proofs.Going.{step_found, step_missing}
 use Rattle.verdicts.proofs.prepared.Prepared.name_row.Goals as goal
 
 pub loop-d-init : goal.loop-d-init
@@ -31,7 +31,7 @@ loop-d-preserved c =
     record {
       set = λ o. step.same o ∙ set o;
       noting = subst (Noting f N c.args.done.now c.args.pending.now c.name_rows.new.pending) (sym step.behind)
-          (noting_more f N c.args.done.now c.args.pending.now c.loop-d.pending c.name_rows.new.pending s.start c.in-Some.d (step_found f s c.next.new.self set c.in-Some.d step) c.loop-d.invariant.noting c.name_rows.auto.pending
+          (noting_more f N c.args.done.now c.args.pending.now c.loop-d.pending c.name_rows.new.pending s.start c.in-Some.d (step_found row_set (λ s. s.start) f s c.next.new.self set c.in-Some.d step) c.loop-d.invariant.noting c.name_rows.auto.pending
           (subst (λ r. Pended (NamedAt (length rows) c.args.c r) c.args.done.now c.loop-d.pending c.name_rows.new.pending) c.row.ensures c.name_rows.ensures));
     }
 
@@ -41,4 +41,4 @@ returns c =
     let N : ℕ → ℕ → Type 0 = λ o k. NamedAt (length rows) c.args.c (slice_get rows o) k in
     let f = in_row c.args.cells.now c.args.q in
     let s = c.loop-d.d-iterator in
-    noting_all f N c.args.done.now c.args.pending.now c.loop-d.pending s.start (step_missing f s c.next.new.self c.loop-d.invariant.set c.in-None.ensures.steps) c.loop-d.invariant.noting
+    noting_all f N c.args.done.now c.args.pending.now c.loop-d.pending s.start (step_missing row_set (λ s. s.start) f s c.next.new.self c.loop-d.invariant.set c.in-None.ensures.steps) c.loop-d.invariant.noting

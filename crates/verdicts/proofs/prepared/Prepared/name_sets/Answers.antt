@@ -5,7 +5,7 @@ use Rattle.verdicts.specs.Ready.{in_row}
 use Rattle.verdicts.specs.RowSets.{row_set}
 use Rattle.verdicts.specs.declared.rowsets.RowSet.{RowSet}
 use Rattle.verdicts.proofs.Pending.{Noting, noting_none, noting_more, noting_all, pended_same}
-use Rattle.verdicts.proofs.Walks.{step_found, step_missing}
+use Rattle.sets.proofs.Going.{step_found, step_missing}
 use Rattle.verdicts.proofs.prepared.Prepared.name_sets.Goals as goal
 
 pub loop-c-init : goal.loop-c-init
@@ -32,7 +32,7 @@ loop-c-preserved c =
     record {
       set = λ o. step.same o ∙ set o;
       noting = subst (Noting f (λ o. NamedWith rows cells o c.args.pair.1) c.args.done.now c.args.pending.now c.name_once.new.pending) (sym step.behind)
-          (noting_more f (λ o. NamedWith rows cells o c.args.pair.1) c.args.done.now c.args.pending.now c.loop-c.pending c.name_once.new.pending s.start c.in-Some.c (step_found f s c.next.new.self set c.in-Some.c step) c.loop-c.invariant.noting
+          (noting_more f (λ o. NamedWith rows cells o c.args.pair.1) c.args.done.now c.args.pending.now c.loop-c.pending c.name_once.new.pending s.start c.in-Some.c (step_found row_set (λ s. s.start) f s c.next.new.self set c.in-Some.c step) c.loop-c.invariant.noting
           c.name_once.auto.pending c.name_once.ensures.pended);
       noted = c.name_once.ensures.noted;
       room = (let e = c.name_once.auto.met in let r = c.loop-c.invariant.room in omega arith);
@@ -45,6 +45,6 @@ returns c =
     let f = in_row cells c.args.pair.0 in
     let s = c.loop-c.c-iterator in
     record {
-      pended = pended_same (λ k (c, m, (d, m', named)). (c, d, m, m', named)) (λ k (c, d, m, m', named). (c, m, (d, m', named))) (noting_all f (λ o. NamedWith rows cells o c.args.pair.1) c.args.done.now c.args.pending.now c.loop-c.pending s.start (step_missing f s c.next.new.self c.loop-c.invariant.set c.in-None.ensures.steps) c.loop-c.invariant.noting);
+      pended = pended_same (λ k (c, m, (d, m', named)). (c, d, m, m', named)) (λ k (c, d, m, m', named). (c, m, (d, m', named))) (noting_all f (λ o. NamedWith rows cells o c.args.pair.1) c.args.done.now c.args.pending.now c.loop-c.pending s.start (step_missing row_set (λ s. s.start) f s c.next.new.self c.loop-c.invariant.set c.in-None.ensures.steps) c.loop-c.invariant.noting);
       noted = c.loop-c.invariant.noted;
     }
