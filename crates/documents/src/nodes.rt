@@ -1,5 +1,8 @@
 // Documents as tables of nodes.
-use forms::MAX_ROWS;
+ghost use Rattle.std.specs.Prelude.{Decides};
+ghost use Rattle.documents.specs.Nodes.{SoundAt};
+
+use forms::{LABELS, MAX_ROWS};
 
 // The most nodes that a table has: one for each row and one for each pair of rows.
 pub const MAX_NODES: usize = MAX_ROWS * (MAX_ROWS + 1);
@@ -17,4 +20,21 @@ pub enum Node {
         inside: u16,
         following: u16,
     },
+}
+
+impl Node {
+    // Whether it has a label or a row number that text can spell and, as the node with number k, points at lower nodes.
+    pub fn is_sound(&self, k: usize) -> bool
+        ensures { Decides result (SoundAt k self.now) }
+    {
+        match self {
+            Node::Void => true,
+            Node::Reference(row) => (*row as usize) < MAX_ROWS,
+            Node::Element {
+                label,
+                inside,
+                following,
+            } => *label < LABELS && (*inside as usize) < k && (*following as usize) < k,
+        }
+    }
 }

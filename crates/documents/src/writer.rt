@@ -25,27 +25,12 @@ pub enum Shape {
     Chain(u8, u16, u16),
 }
 
-// Whether the node with number k points at lower nodes, and has a label or a row number that text can spell.
-fn sound(k: usize, node: Node) -> bool
-    ensures { Decides result (SoundAt k node) }
-{
-    match node {
-        Node::Void => true,
-        Node::Reference(row) => (row as usize) < MAX_ROWS,
-        Node::Element {
-            label,
-            inside,
-            following,
-        } => label < LABELS && (inside as usize) < k && (following as usize) < k,
-    }
-}
-
 // The lowest node that is not sound.
 fn unsound(nodes: &[Node]) -> Option<usize>
     ensures { MatchOption result (Sound nodes.now) (λ k. Lowest (Unsound nodes.now) k) }
 {
     for (k, node) in nodes.iter().enumerate() {
-        if !sound(k, *node) {
+        if !node.is_sound(k) {
             return Some(k);
         }
     }

@@ -25,13 +25,8 @@ fn sound(prepared: &Prepared, k: usize, node: Node) -> bool
     ensures { Decides result (SoundWith (IsChannel (rows_in prepared.now)) k node) }
 {
     match node {
-        Node::Void => true,
         Node::Reference(row) => is_channel(prepared, row),
-        Node::Element {
-            label,
-            inside,
-            following,
-        } => label < LABELS && (inside as usize) < k && (following as usize) < k,
+        _ => node.is_sound(k),
     }
 }
 

@@ -1,10 +1,10 @@
 // Tables of forms: rows, and the sources that give them.
 #![tactic(auto)]
 
-ghost use Rattle.std.specs.Prelude.{◌≡◌, List, length};
+ghost use Rattle.std.specs.Prelude.{◌≡◌, List, length, Decides};
 ghost use Rattle.std.specs.List.{slice_get};
 ghost use Rattle.forms.specs.declared.Row.{Row};
-ghost use Rattle.forms.specs.Rows.{Lawful};
+ghost use Rattle.forms.specs.Rows.{Lawful, NumbersBelow};
 
 pub mod buffer;
 pub mod bytes;
@@ -42,6 +42,24 @@ pub enum Row {
     },
     // one or the other
     Union(u8, u8),
+}
+
+impl Row {
+    // Whether the numbers of rows in it are below the count.
+    pub fn numbers_below(&self, count: usize) -> bool
+        ensures { Decides result (NumbersBelow count self.now) }
+    {
+        match self {
+            Row::Void | Row::Nothing => true,
+            Row::Channel(_, payload) => (*payload as usize) < count,
+            Row::Element {
+                inside,
+                following,
+                ..
+            } => (*inside as usize) < count && (*following as usize) < count,
+            Row::Union(left, right) => (*left as usize) < count && (*right as usize) < count,
+        }
+    }
 }
 
 // Whoever builds a source shows that `count` and `row` follow the list of rows that it means.

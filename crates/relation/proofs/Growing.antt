@@ -156,7 +156,6 @@ offers_right rows p o (Element l i f) e h = h
 offers_right rows p o (Union l r) e h = right e h
 
 module _ (rows : List Row) (old : List ℕ) where
-
   -- a set that is added soundly leaves the sets sound
   added_sound : (p k : ℕ) (a b : List ℕ) (x : Bool) → word * length a ≡ max_rows * max_rows → ((o : ℕ) → Offers rows k o → Offers rows p o) → RowAdded p k a b x → Sound rows a → Sound rows b
   added_sound p k a b x room up r s q o q< o< e = ⊎_elim

@@ -4,7 +4,7 @@ use lib.ListN.{length-replicate}
 use Rattle.std.specs.List.{slice_get}
 use Rattle.std.proofs.lemmas.Bool.{cases_lt, cases_eq, both_ways, or_cases, or_parts, and_parts, and_from, and_cases, cases_Bool, lt-ltb, le-ltb, ltb-true, eqb-true, eqb-false, eq-eqb, ne_eqb, not-true, not-false, not_from_false}
 use Rattle.std.proofs.lemmas.Bool.Decides.{nat_tests}
-use Rattle.sets.specs.Sets.{bit, member, word, top}
+use Rattle.sets.specs.Sets.{bit, member, word}
 use Rattle.sets.proofs.Lowest.{bit_zero}
 use Rattle.sets.proofs.Wider.{some_bit}
 use Rattle.narrowing.specs.Narrowing.{Stands, Narrowed}

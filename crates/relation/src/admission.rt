@@ -14,31 +14,12 @@ use super::analysis::{Analysis, analyze_rows};
 use forms::buffer::RowBuffer;
 use forms::{FormSource, Row};
 
-// Whether the row's numbers are below the count.
-fn numbers_below(row: Row, count: usize) -> bool
-    ensures { Decides result (NumbersBelow count row) }
-{
-    match row {
-        Row::Void => true,
-        Row::Nothing => true,
-        Row::Channel(_, payload) => (payload as usize) < count,
-        Row::Element {
-            inside,
-            following,
-            ..
-        } => (inside as usize) < count && (following as usize) < count,
-        Row::Union(left, right) => (left as usize) < count && (right as usize) < count,
-    }
-}
-
 // The lowest row with a number outside the table.
 fn outside(rows: &[Row]) -> Option<u8>
     requires { length rows.now ≤ max_rows }
     ensures { MatchOption result (Nowhere (Outside rows.now)) (Lowest (Outside rows.now)) }
 {
-    let p = rows
-        .iter()
-        .position(|row| !numbers_below(*row, rows.len()))?;
+    let p = rows.iter().position(|row| !row.numbers_below(rows.len()))?;
     Some(p as u8)
 }
 

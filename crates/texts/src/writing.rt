@@ -1,7 +1,6 @@
 // Writing rows as text: first measured, then written.
-ghost use Rattle.std.specs.Prelude.{◌≡◌, ◌≤◌, length, Decides, nat_lt};
+ghost use Rattle.std.specs.Prelude.{◌≡◌, ◌≤◌, length};
 ghost use Rattle.forms.specs.Limits.{max_rows};
-ghost use Rattle.forms.specs.Rows.{NumbersBelow};
 ghost use Rattle.forms.specs.Splices.{Wrote};
 ghost use Rattle.texts.specs.RowText.{spelled_row, spelled};
 ghost use Rattle.texts.specs.Writing.{WritingRowsIsOne, WrittenRowsAreRight};
@@ -12,28 +11,6 @@ use super::{RowsFault, bytes};
 use forms::buffer::RowBuffer;
 use forms::bytes::digits;
 use forms::{FormSource, MAX_ROWS, Row};
-
-fn in_range(number: u8) -> bool
-    ensures { result ≡ nat_lt number max_rows }
-{
-    (number as usize) < MAX_ROWS
-}
-
-// Whether text can spell the row's numbers.
-fn spellable(row: Row) -> bool
-    ensures { Decides result (NumbersBelow max_rows row) }
-{
-    match row {
-        Row::Void | Row::Nothing => true,
-        Row::Channel(_, payload) => in_range(payload),
-        Row::Element {
-            inside,
-            following,
-            ..
-        } => in_range(inside) && in_range(following),
-        Row::Union(left, right) => in_range(left) && in_range(right),
-    }
-}
 
 // The length of a row's line: its letter, three commas and byte 10, and its fields.
 fn line_length(row: Row) -> usize
@@ -59,7 +36,7 @@ fn measure(rows: &[Row]) -> Result<usize, RowsFault>
 {
     let mut total = 0;
     for (number, row) in rows.iter().enumerate() {
-        if !spellable(*row) {
+        if !row.numbers_below(MAX_ROWS) {
             return Err(RowsFault::NumberOver { row: number });
         }
         total += line_length(*row);
