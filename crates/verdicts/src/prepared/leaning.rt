@@ -156,7 +156,7 @@ impl Prepared {
     }
 
     // Notes the pairs that the rules name for the rows in the set of row p and those in the set of row q, each row and set once.
-    fn name_sets(
+    fn name_sets_once(
         &self,
         cells: &[u64],
         done: &[u64],
@@ -177,7 +177,7 @@ impl Prepared {
     }
 
     // Notes the pairs that the rules name for a pair. What was done for channels and for elements is in `links` and `parts`.
-    fn name_pair(
+    fn name_pair_once(
         &self,
         done: &[u64],
         pending: &mut [u64],
@@ -192,8 +192,8 @@ impl Prepared {
         ensures pended { Pended (NamedFor (rows_in self.now) pair.0 pair.1) done.now pending.old pending.new }
         ensures noted { Noted (rows_in self.now) self.now.channels links.new done.now pending.new × Noted (rows_in self.now) self.now.elements parts.new done.now pending.new }
     {
-        self.name_sets(&self.channels, done, pending, links, pair);
-        self.name_sets(&self.elements, done, pending, parts, pair);
+        self.name_sets_once(&self.channels, done, pending, links, pair);
+        self.name_sets_once(&self.elements, done, pending, parts, pair);
     }
 
     // The lowest pair that is pending, by its place.
@@ -218,7 +218,7 @@ impl Prepared {
         while let Some(k) = self.lowest(&pending) {
             sets::remove(&mut pending, k);
             sets::put(&mut done, k);
-            self.name_pair(
+            self.name_pair_once(
                 &done,
                 &mut pending,
                 &mut links,

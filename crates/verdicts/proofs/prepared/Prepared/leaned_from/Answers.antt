@@ -51,14 +51,14 @@ loop-k-init c =
       parted = noted_none (rows_of t.table) t.elements (max_rows * max_rows / word) _ _;
     }
 
-pub slice_bounds-name_pair-end-in-Some-2 : goal.slice_bounds-name_pair-end-in-Some-2
-slice_bounds-name_pair-end-in-Some-2 c = let r = c.loop-k.invariant.room_links in omega arith
+pub slice_bounds-name_pair_once-end-in-Some-2 : goal.slice_bounds-name_pair_once-end-in-Some-2
+slice_bounds-name_pair_once-end-in-Some-2 c = let r = c.loop-k.invariant.room_links in omega arith
 
-pub slice_bounds-name_pair-end-in-Some-3 : goal.slice_bounds-name_pair-end-in-Some-3
-slice_bounds-name_pair-end-in-Some-3 c = let r = c.loop-k.invariant.room_parts in omega arith
+pub slice_bounds-name_pair_once-end-in-Some-3 : goal.slice_bounds-name_pair_once-end-in-Some-3
+slice_bounds-name_pair_once-end-in-Some-3 c = let r = c.loop-k.invariant.room_parts in omega arith
 
-pub name_pair-requires : goal.name_pair-requires
-name_pair-requires c =
+pub name_pair_once-requires : goal.name_pair_once-requires
+name_pair_once-requires c =
     let t = c.args.self.now in
     let rows = rows_of t.table in
     let n = c.count-n.result in
@@ -82,9 +82,9 @@ pub loop-k-smaller : goal.loop-k-smaller
 loop-k-smaller c =
     let rows = rows_of c.args.self.now.table in
     let k = c.in-Some.k in
-    leaning_less rows c.args.starts c.loop-k.done c.loop-k.pending c.put.new.words c.remove.new.words c.name_pair.new.pending k c.loop-k.invariant.leaning c.in-Some.ensures.0 c.in-Some.ensures.1
-    c.put.auto.words c.remove.auto.words c.name_pair.auto.pending c.remove.ensures c.put.ensures.within
-    (subst (λ m. Pended (NamedFor rows (k / m) (k % m)) c.put.new.words c.remove.new.words c.name_pair.new.pending) c.count-n.ensures c.name_pair.ensures.pended)
+    leaning_less rows c.args.starts c.loop-k.done c.loop-k.pending c.put.new.words c.remove.new.words c.name_pair_once.new.pending k c.loop-k.invariant.leaning c.in-Some.ensures.0 c.in-Some.ensures.1
+    c.put.auto.words c.remove.auto.words c.name_pair_once.auto.pending c.remove.ensures c.put.ensures.within
+    (subst (λ m. Pended (NamedFor rows (k / m) (k % m)) c.put.new.words c.remove.new.words c.name_pair_once.new.pending) c.count-n.ensures c.name_pair_once.ensures.pended)
     (max_rows * max_rows) refl
 
 pub loop-k-preserved : goal.loop-k-preserved
@@ -92,13 +92,13 @@ loop-k-preserved c =
     let rows = rows_of c.args.self.now.table in
     let k = c.in-Some.k in
     record {
-      leaning = leaning_more rows c.args.starts c.loop-k.done c.loop-k.pending c.put.new.words c.remove.new.words c.name_pair.new.pending k c.loop-k.invariant.leaning c.in-Some.ensures.0 c.in-Some.ensures.1
-          c.put.auto.words c.remove.auto.words c.name_pair.auto.pending c.remove.ensures c.put.ensures.within
-          (subst (λ m. Pended (NamedFor rows (k / m) (k % m)) c.put.new.words c.remove.new.words c.name_pair.new.pending) c.count-n.ensures c.name_pair.ensures.pended);
-      room_links = let r = c.loop-k.invariant.room_links in let e = c.name_pair.auto.links in omega arith;
-      room_parts = let r = c.loop-k.invariant.room_parts in let e = c.name_pair.auto.parts in omega arith;
-      linked = c.name_pair.ensures.noted.0;
-      parted = c.name_pair.ensures.noted.1;
+      leaning = leaning_more rows c.args.starts c.loop-k.done c.loop-k.pending c.put.new.words c.remove.new.words c.name_pair_once.new.pending k c.loop-k.invariant.leaning c.in-Some.ensures.0 c.in-Some.ensures.1
+          c.put.auto.words c.remove.auto.words c.name_pair_once.auto.pending c.remove.ensures c.put.ensures.within
+          (subst (λ m. Pended (NamedFor rows (k / m) (k % m)) c.put.new.words c.remove.new.words c.name_pair_once.new.pending) c.count-n.ensures c.name_pair_once.ensures.pended);
+      room_links = let r = c.loop-k.invariant.room_links in let e = c.name_pair_once.auto.links in omega arith;
+      room_parts = let r = c.loop-k.invariant.room_parts in let e = c.name_pair_once.auto.parts in omega arith;
+      linked = c.name_pair_once.ensures.noted.0;
+      parted = c.name_pair_once.ensures.noted.1;
     }
 
 pub returns : goal.returns

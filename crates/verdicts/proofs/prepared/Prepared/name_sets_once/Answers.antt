@@ -6,7 +6,7 @@ use Rattle.verdicts.specs.RowSets.{row_set}
 use Rattle.verdicts.specs.declared.rowsets.RowSet.{RowSet}
 use Rattle.verdicts.proofs.Pending.{Noting, noting_none, noting_more, noting_all, pended_same}
 use Rattle.sets.proofs.Going.{step_found, step_missing}
-use Rattle.verdicts.proofs.prepared.Prepared.name_sets.Goals as goal
+use Rattle.verdicts.proofs.prepared.Prepared.name_sets_once.Goals as goal
 
 pub loop-c-init : goal.loop-c-init
 loop-c-init c =

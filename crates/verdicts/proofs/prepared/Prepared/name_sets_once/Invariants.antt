@@ -6,7 +6,7 @@ use Rattle.verdicts.specs.Naming.{NamedWith, Noted}
 use Rattle.verdicts.specs.Ready.{in_row}
 use Rattle.verdicts.specs.RowSets.{row_set}
 use Rattle.verdicts.proofs.Pending.{Noting}
-use Rattle.verdicts.proofs.prepared.Prepared.name_sets.Given as goal
+use Rattle.verdicts.proofs.prepared.Prepared.name_sets_once.Given as goal
 
 abbrev pub invariant-loop-c : goal.invariant-loop-c
 invariant-loop-c l = record {
