@@ -30,6 +30,7 @@ pub fn question(
 
 // The same question, for a program in another language: the answer is one number, 0 for yes; 1 + 65,536 × n for no, where
 // the first n bytes of the buffer are the order's text; else code + 256 × layer + 65,536 × place of the first fault.
+// As it is: a program in C hands over and takes numbers.
 pub fn compare(ours: &[u8], theirs: &[u8], p: u64, q: u64, t: u64, buffer: &mut [u8]) -> u64
     ensures compares { Compares ours.now theirs.now p q t buffer.old buffer.new result }
     ensures laws { (OneFault) × ((FaultOrAnswer) × ((OneMeaning) × ((JoinedIsAdmitted) × (TurnedIsAdmitted)))) }

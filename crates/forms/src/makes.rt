@@ -7,6 +7,7 @@ ghost use Rattle.forms.specs.Laws.{joined_laws, turned_laws};
 use super::{Capability, FormSource, MAX_ROWS, Row};
 
 // What stands for a row number that lies past its own table.
+// As it is: the numbers in a row are bytes by the format, and 255 is no row's.
 const PAST: u8 = 255;
 
 fn raise(by: u8, own: usize, number: u8) -> u8

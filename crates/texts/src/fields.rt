@@ -77,6 +77,7 @@ fn length(text: &[u8]) -> Option<usize>
 }
 
 // The value of the field that the text begins with, and the text behind its end, which is that of this field of a line; the field's number if it is wrong.
+// As it is: the number in an Err is no code but the place that the refusal names.
 pub(crate) fn read<T: Value>(text: &[u8], number: usize) -> Result<(T, &[u8]), usize>
     ensures { FieldRead T.Value.spells text.now number result }
 {

@@ -8,7 +8,6 @@ use Rattle.sets.proofs.Membership.{member_at, member_past}
 use Rattle.sets.proofs.Words.{bit_of_and}
 use Rattle.forms.specs.Limits.{max_rows}
 use Rattle.relation.proofs.Reaching.{zeros_none}
-use Rattle.verdicts.proofs.Labelling.{Listed}
 
 ltb_step : (j i : ℕ) → j ≢ i → ltb j i ≡ ltb j (i + 1)
 ltb_step j i other = ⊎_elim (λ h. lt-ltb j i h ∙ sym (lt-ltb j (i + 1) (omega arith))) (λ h. le-ltb j i h ∙ sym (le-ltb j (i + 1) (up h))) (cases_lt j i)
@@ -66,14 +65,13 @@ module _ (cells rows left : List ℕ) where
   abbrev wide : ℕ
   wide = max_rows / word
 
-  pub overlaid_all : (i : ℕ) → i ≡ max_rows * wide → Listed (max_rows * wide) (overlaid cells rows wide) left i
-      → (k : ℕ) → member left k ≡ (ltb k (max_rows * max_rows) && (member cells k && member rows (k % max_rows)))
-  overlaid_all i all l k = ⊎_elim
+  pub overlaid_all : ((i : ℕ) → i < max_rows * wide → overlaid cells rows wide i (get_or left i 0)) → length left ≡ max_rows * wide → (k : ℕ) → member left k ≡ (ltb k (max_rows * max_rows) && (member cells k && member rows (k % max_rows)))
+  overlaid_all made long k = ⊎_elim
       (λ h. member_at left (k / word) (k % word) k (omega arith) (omega arith) (omega arith)
-      ∙ ap (λ w. bit w (k % word)) (l.so_far (k / word) (omega arith))
+      ∙ ap (λ w. bit w (k % word)) (made (k / word) (omega arith))
       ∙ bit_of_and (get_or cells (k / word) 0) (get_or rows (k / word % wide) 0) (k % word)
       ∙ ap (λ b. b && bit (get_or rows (k / word % wide) 0) (k % word)) (sym (member_at cells (k / word) (k % word) k (omega arith) (omega arith) (omega arith)))
       ∙ ap (λ b. member cells k && b) (sym (member_at rows (k / word % wide) (k % word) (k % max_rows) (omega arith) (omega arith) (omega arith)))
       ∙ sym (ap (λ b. b && (member cells k && member rows (k % max_rows))) (lt-ltb k (max_rows * max_rows) h)))
-      (λ h. member_past left k (omega (arith, l.long)) ∙ sym (and_left (ltb k (max_rows * max_rows)) (member cells k && member rows (k % max_rows)) (le-ltb k (max_rows * max_rows) h)))
+      (λ h. member_past left k (omega (arith, long)) ∙ sym (and_left (ltb k (max_rows * max_rows)) (member cells k && member rows (k % max_rows)) (le-ltb k (max_rows * max_rows) h)))
       (cases_lt k (max_rows * max_rows))

@@ -1,10 +1,11 @@
 -- The labels of the rows in a set, gathered one row after another. Assumes nothing.
-use Rattle.std.proofs.Common.{◌≡◌, ℕ, ◌+◌, ◌<◌, Bool, true, List, length, get_or, set, replicate, sym, ap, ◌∙◌, subst, ⊎_elim, arith, length-set}
+use Rattle.std.proofs.Common.{◌≡◌, ℕ, ◌+◌, ◌<◌, Bool, true, List, get_or, sym, ap, ◌∙◌, subst, ⊎_elim, arith, ◌≤◌, zero, suc}
 use lib.Bits.{bit_or}
-use lib.ListN.{length-replicate}
 use Rattle.std.specs.List.{slice_get}
-use Rattle.std.proofs.lemmas.List.{get_or-set_same, get_or-set_other}
 use Rattle.std.proofs.lemmas.Bool.{both_ways, or_cases, or_left, or_right, cases_eq}
+use Rattle.std.specs.Array.{IsFromFnResult, IsFromFnResultFrom}
+use Rattle.std.specs.Fn.{Called}
+use denote.Param.Members.{Mut}
 use Rattle.sets.specs.Sets.{bit}
 use Rattle.sets.proofs.Words.{bit_of_or}
 use Rattle.sets.proofs.Lowest.{bit_zero}
@@ -40,19 +41,17 @@ module _ (rows : List Row) (f : ℕ → Bool) where
   pub labels_all : (labels from : ℕ) → Missing f from → Labels labels from → Labelling rows f labels
   labels_all labels from none l x = (λ b. let (e, h) = l.some x b in (e, h.0, h.1), λ (e, m, h). l.has x e (walk_end f from none e m) (m, h))
 
--- one row after another
-pub record Listed (n : ℕ) (P : ℕ → ℕ → Type 0) (labels : List ℕ) (i : ℕ) : Type 0 where
-  pub long : length labels ≡ n
-  pub so_far : (p : ℕ) → p < i → P p (get_or labels p 0)
+-- an array of what a function gives for each place
+made_from : {F B : Type 0} {g : Mut F (ℕ × Unit {0}) B} (P : ℕ → B → Type 0) {f : F} (ys : List B) (i n : ℕ) → IsFromFnResultFrom g f ys i n → ((x : ℕ) (y : B) (q : F) → Called g f (x, tt) y q → (q ≡ f) × P x y)
+    → (d : B) (k : ℕ) → i ≤ k → k < i + n → P k (get_or ys k d)
+made_from P ys i zero made each d k from to = absurd (omega arith)
+made_from {g = g} P ys i (suc n) (q, y, at, call, rest) each d k from to =
+    let (same, here) = each i y q call in
+    ⊎_elim
+    (λ is. subst (λ j. P j (get_or ys j d)) (sym is) (subst (P i) (sym (at.1 d)) here))
+    (λ other. made_from P ys (i + 1) n (subst (λ f. IsFromFnResultFrom g f ys (i + 1) n) same rest) each d k (omega arith) (omega arith))
+    (cases_eq k i)
 
-pub listed_none : (n : ℕ) (P : ℕ → ℕ → Type 0) → Listed n P (replicate n 0) 0
-listed_none n P = record { long = length-replicate {A = ℕ} n 0; so_far = λ p h. absurd (omega arith) }
-
-pub listed_more : (n : ℕ) (P : ℕ → ℕ → Type 0) (labels : List ℕ) (i v : ℕ) → i < n → Listed n P labels i → P i v → Listed n P (set labels i v) (i + 1)
-listed_more n P labels i v h l here = record {
-  long = length-set labels i v ∙ l.long;
-  so_far = λ p k. ⊎_elim
-      (λ same. subst (λ j. P j (get_or (set labels i v) j 0)) (sym same) (subst (P i) (sym (get_or-set_same labels i v 0 (omega (arith, l.long)))) here))
-      (λ other. subst (P p) (sym (get_or-set_other labels i p v 0 other)) (l.so_far p (omega arith)))
-      (cases_eq p i);
-}
+pub made_of : {F B : Type 0} {g : Mut F (ℕ × Unit {0}) B} (P : ℕ → B → Type 0) {f : F} {ys : List B} {n : ℕ} → IsFromFnResult g f ys n → ((x : ℕ) (y : B) (q : F) → Called g f (x, tt) y q → (q ≡ f) × P x y)
+    → (d : B) (k : ℕ) → k < n → P k (get_or ys k d)
+made_of P {ys = ys} {n = n} made each d k low = made_from P ys 0 n made.each each d k (omega arith) (omega arith)

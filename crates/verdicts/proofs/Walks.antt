@@ -2,13 +2,12 @@
 use Rattle.std.proofs.Common.{◌≡◌, ℕ, ◌+◌, ◌-◌, ◌*◌, ◌/◌, ◌%◌, ◌<◌, ◌≤◌, Bool, true, false, ◌&&◌, ltb, ◌⊎◌, List, length, take, drop, sym, ap, ◌∙◌, subst, inl, inr, ⊎_elim, mul_left_comm, arith, length-drop, length-take, get_or-drop, get_or-take, Option, Some, None, Bor, refl}
 use Rattle.std.specs.Slice.{IsGetRangeResult}
 use Rattle.std.proofs.lemmas.Bool.{cases_lt, lt-ltb, le-ltb, and_left, and_parts, ltb-true, both_ways}
-use Rattle.sets.specs.Sets.{bit, member, word, GoesOn}
+use Rattle.sets.specs.Sets.{bit, member, word}
 use Rattle.sets.proofs.Membership.{member_at, member_past}
 use Rattle.forms.specs.Limits.{max_rows, numbers}
 use Rattle.relation.specs.Cells.{cell}
 use Rattle.verdicts.specs.Ready.{in_row}
-use Rattle.verdicts.specs.RowSets.{row_set, WordsOf}
-use Rattle.verdicts.specs.declared.rowsets.RowSet.{RowSet}
+use Rattle.verdicts.specs.RowSets.{WordsOf}
 
 module _ (cells : List ℕ) (p : ℕ) where
   pub in_row_low : (o : ℕ) → o < max_rows → in_row cells p o ≡ cell cells p o

@@ -21,6 +21,7 @@ impl RowBuffer {
     }
 
     // One row more at the end; false, and no change, where there are 64.
+    // As it is: whether it was taken is all that there is to say, and no caller here can be turned away.
     pub fn push(&mut self, row: Row) -> bool
         ensures taken { result ≡ nat_lt (length (rows_of self.old)) max_rows }
         ensures now { rows_of self.new ≡ pushed (rows_of self.old) row }

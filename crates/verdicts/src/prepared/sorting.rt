@@ -20,6 +20,7 @@ use relation::admission::{admit, element_labels};
 use relation::analysis::Analysis;
 use relation::offering::{CELL_WORDS, ROW_WORDS};
 use sets;
+use std::array;
 
 // Whether row o is inhabited and of that sort.
 fn is_sort(table: &RowBuffer, analysis: &Analysis, kind: Kind, o: u8) -> bool
@@ -46,11 +47,7 @@ fn rows_of_sort(table: &RowBuffer, analysis: &Analysis, kind: Kind) -> [u64; ROW
 fn among(cells: &[u64; CELL_WORDS], rows: &[u64; ROW_WORDS]) -> [u64; CELL_WORDS]
     ensures { (k : ℕ) → member result k ≡ (nat_lt k (max_rows * max_rows) && (member cells.now k && member rows.now (k % max_rows))) }
 {
-    let mut left = [0; CELL_WORDS];
-    for (i, word) in cells.iter().enumerate() {
-        left[i] = *word & rows[i % ROW_WORDS];
-    }
-    left
+    array::from_fn(|i| cells[i] & rows[i % ROW_WORDS])
 }
 
 // For each row the inhabited rows of that sort that it offers.
@@ -83,11 +80,12 @@ fn labels_in_row(table: &RowBuffer, elements: &[u64], p: u8) -> u64
 fn gather_labels(table: &RowBuffer, elements: &[u64]) -> [u64; MAX_ROWS]
     ensures { (p : ℕ) → p < max_rows → Labelling (rows_of table.now) (in_row elements.now p) (slice_index result p) }
 {
-    let mut labels = [0; MAX_ROWS];
-    for p in 0..MAX_ROWS {
-        labels[p] = labels_in_row(table, elements, p as u8);
-    }
-    labels
+    array::from_fn(
+        |p|
+            requires { p < 256 }
+            ensures { Labelling (rows_of table.entry.now) (in_row elements.entry.now p) result }
+        { labels_in_row(table, elements, p as u8) },
+    )
 }
 
 impl Prepared {

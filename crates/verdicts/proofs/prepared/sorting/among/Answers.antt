@@ -1,18 +1,14 @@
-use Rattle.std.proofs.Common.{◌*◌, ◌/◌, ◌%◌, get_or, refl, arith}
-use lib.Bits.{bit_and}
+use Rattle.std.proofs.Common.{rules, ℕ, ◌/◌}
 use Rattle.sets.specs.Sets.{word}
 use Rattle.forms.specs.Limits.{max_rows}
 use Rattle.verdicts.proofs.Gathering.{overlaid, overlaid_all}
-use Rattle.verdicts.proofs.Labelling.{listed_none, listed_more}
+use Rattle.verdicts.proofs.Labelling.{made_of}
 use Rattle.verdicts.proofs.prepared.sorting.among.Goals as goal
-
-pub loop-i-init : goal.loop-i-init
-loop-i-init c = listed_none (max_rows * (max_rows / word)) (overlaid c.args.cells.now c.args.rows.now (max_rows / word))
-
-pub loop-i-preserved : goal.loop-i-preserved
-loop-i-preserved c =
-    listed_more (max_rows * (max_rows / word)) (overlaid c.args.cells.now c.args.rows.now (max_rows / word)) c.loop-i.left c.loop-i.i
-    (bit_and (get_or c.args.cells.now c.loop-i.i 0) (get_or c.args.rows.now (c.loop-i.i % (max_rows / word)) 0)) (omega arith) c.loop-i.invariant refl
+use borrow.Author.Tests.{tests}
 
 pub returns : goal.returns
-returns c = overlaid_all c.args.cells.now c.args.rows.now c.loop-i.left c.loop-i.i (omega arith) c.loop-i.invariant
+returns c =
+    let made = c.from_fn.ensures.items in
+    let P : ℕ → ℕ → Type 0 = overlaid c.args.cells.now c.args.rows.now (max_rows / word) in
+    overlaid_all c.args.cells.now c.args.rows.now c.from_fn.result
+    (λ i low. made_of P made (λ x y q k. search (rules, tests)) 0 i low) made.long

@@ -1,15 +1,11 @@
-use Rattle.std.proofs.Common.{arith}
+use Rattle.std.proofs.Common.{rules, ℕ}
 use Rattle.forms.specs.Buffers.{rows_of}
-use Rattle.forms.specs.Limits.{max_rows}
 use Rattle.verdicts.specs.Ready.{in_row, Labelling}
-use Rattle.verdicts.proofs.Labelling.{listed_none, listed_more}
+use Rattle.verdicts.proofs.Labelling.{made_of}
 use Rattle.verdicts.proofs.prepared.sorting.gather_labels.Goals as goal
-
-pub loop-p-init : goal.loop-p-init
-loop-p-init c = listed_none max_rows (λ p v. Labelling (rows_of c.args.table.now) (in_row c.args.elements.now p) v)
-
-pub loop-p-preserved : goal.loop-p-preserved
-loop-p-preserved c = listed_more max_rows (λ p v. Labelling (rows_of c.args.table.now) (in_row c.args.elements.now p) v) c.loop-p.labels c.loop-p.p c.labels_in_row.result (omega arith) c.loop-p.invariant c.labels_in_row.ensures
+use borrow.Author.Tests.{tests}
 
 pub returns : goal.returns
-returns c = λ p h. c.loop-p.invariant.so_far p (omega arith)
+returns c =
+    let P : ℕ → ℕ → Type 0 = λ p v. Labelling (rows_of c.args.table.now) (in_row c.args.elements.now p) v in
+    λ p low. made_of P c.from_fn.ensures.items (λ x y q k. search (rules, tests)) 0 p low
