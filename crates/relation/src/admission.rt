@@ -40,7 +40,7 @@ pub fn element_labels(row: Row) -> u64
     }
 }
 
-// As it is, rows and their analysis apart: a struct of both would hold what the analysis tells only as a truncated fact, to be decided again at each use.
+// As it is: rows and their analysis stay apart, since a struct of both would hold what the analysis tells only as a truncated fact, to be decided again at each use.
 // Whether row p offers row o, and o is inhabited.
 fn counts(analysis: &Analysis, p: usize, o: usize) -> bool
     requires first { p < max_rows }
