@@ -1,63 +1,72 @@
 // formbook check: what each row of a table is.
 use super::phrases;
-use forms::FormSource;
 use relation::admission::admit;
 use relation::analysis::Analysis;
-use std::fs;
+use relation::offering::ROW_WORDS;
+use std::{fs, io};
 use texts::RowText;
 
-// What a row offers, as a list of row numbers.
-fn print_offers(rt: &HostRuntime, analysis: &Analysis, row: u8, count: u8) -> anyhow::Result<()> {
-    let mut some = false;
-    for other in 0..count {
-        if analysis.offers(row, other) {
-            let before = if some { ", " } else { "offers rows " };
-            print!(rt; "{before}{other}")?;
-            some = true;
-        }
-    }
-    if !some {
-        print!(rt; "offers nothing")?;
-    }
-    Ok(())
-}
-
 fn print_table(rt: &HostRuntime, table: &RowText, analysis: &Analysis) -> anyhow::Result<()> {
-    let count = table.count();
-    for number in 0..count {
-        if let Some(row) = table.row(number as u8) {
-            print!(rt; "  row {number}: ")?;
-            phrases::print_row(rt, row)?;
-            let inhabited = if analysis.is_inhabited(number as u8) {
-                "inhabited"
-            } else {
-                "not inhabited"
-            };
-            print!(rt; "; {inhabited}; ")?;
-            print_offers(rt, analysis, number as u8, count as u8)?;
-            println!(rt)?;
-        }
+    let offers = analysis.offered().chunks(ROW_WORDS);
+    for ((number, row), offered) in (0u8..).zip(table.rows()).zip(offers) {
+        print!(rt; "  row {number}: ")?;
+        phrases::print_row(rt, *row)?;
+        let inhabited = if analysis.is_inhabited(number) {
+            "inhabited"
+        } else {
+            "not inhabited"
+        };
+        print!(rt; "; {inhabited}; ")?;
+        phrases::print_members(rt, offered, "offers rows ", "offers nothing")?;
+        println!(rt)?;
     }
     Ok(())
 }
 
-// Reads a table from a file; if that fails, says why.
-pub(crate) fn load(rt: &HostRuntime, path: &str) -> anyhow::Result<Option<RowText>> {
-    let bytes = match fs::read(rt, path) {
-        Ok(bytes) => bytes,
+// What was read from a file; if that failed, says why.
+pub(crate) fn opened<T: Drop>(
+    rt: &HostRuntime,
+    path: &str,
+    read: io::Result<T>,
+) -> anyhow::Result<Option<T>> {
+    match read {
+        Ok(text) => Ok(Some(text)),
         Err(error) => {
             println!(rt; "{path}: the file cannot be read: {error}")?;
-            return Ok(None);
-        }
-    };
-    match RowText::read(bytes.as_slice()) {
-        Ok(table) => Ok(Some(table)),
-        Err(fault) => {
-            print!(rt; "{path}: ")?;
-            phrases::print_text_fault(rt, fault)?;
             Ok(None)
         }
     }
+}
+
+// Reads a table from a file; if that fails, says why.
+// As it is: with a Result in place of the Option each caller would print the fault, which is printed once here.
+pub(crate) fn load(rt: &HostRuntime, path: &str) -> anyhow::Result<Option<RowText>> {
+    let Some(bytes) = opened(rt, path, fs::read(rt, path))? else {
+        return Ok(None);
+    };
+    match RowText::read(&bytes) {
+        Ok(table) => Ok(Some(table)),
+        Err(fault) => {
+            println!(rt; "{path}: {fault}")?;
+            Ok(None)
+        }
+    }
+}
+
+// Runs a command on each word in turn; answers whether all went well.
+pub(crate) fn each<F: Fn(&HostRuntime, &str) -> anyhow::Result<bool>>(
+    rt: &HostRuntime,
+    words: &[&str],
+    command: F,
+) -> anyhow::Result<bool>
+    requires { F.IsAlwaysCallable command }
+{
+    let mut all = true;
+    for word in words {
+        let well = command(rt, word)?;
+        all = all && well;
+    }
+    Ok(all)
 }
 
 fn check_one(rt: &HostRuntime, path: &str) -> anyhow::Result<bool> {
@@ -66,7 +75,7 @@ fn check_one(rt: &HostRuntime, path: &str) -> anyhow::Result<bool> {
     };
     match admit(&table) {
         Ok(analysis) => {
-            let count = table.count();
+            let count = table.rows().len();
             println!(rt; "{path}: admitted, {count} rows")?;
             print_table(rt, &table, &analysis)?;
             Ok(true)
@@ -80,11 +89,6 @@ fn check_one(rt: &HostRuntime, path: &str) -> anyhow::Result<bool> {
 }
 
 // Each table in turn; answers whether all are admitted.
-pub(crate) fn check(rt: &HostRuntime, paths: &[String]) -> anyhow::Result<bool> {
-    let mut all = true;
-    for path in paths {
-        let admitted = check_one(rt, path.as_str())?;
-        all = all && admitted;
-    }
-    Ok(all)
+pub(crate) fn check(rt: &HostRuntime, paths: &[&str]) -> anyhow::Result<bool> {
+    each(rt, paths, |rt, path| check_one(rt, path))
 }

@@ -1,92 +1,14 @@
 // formbook compare and formbook button: whether a factory can read every order that we can write.
+use super::checking::{each, opened};
 use super::{ordering, phrases};
-use compare::compare;
+use compare::comparing::Finding;
+use compare::faults::{CompareFault, Side};
+use compare::question;
 use documents::nodes::{MAX_DOCUMENT, MAX_NODES, Node};
-use documents::reader::read_document;
 use forms::{FormSource, MAX_ROWS};
-use relation::AdmissionFault;
 use std::fs;
 use std::io::Write;
-use texts::{RowText, TextFault};
-
-// A number that the comparison answers, taken apart.
-#[derive(Clone, Copy)]
-struct Said {
-    code: u64,
-    layer: u64,
-    place: u64,
-}
-
-fn apart(res: u64) -> Said {
-    Said {
-        code: res % 256,
-        layer: res / 256 % 256,
-        place: res / 65536,
-    }
-}
-
-fn text_fault(said: Said) -> TextFault {
-    match said.code {
-        1 => TextFault::TooLong,
-        2 => TextFault::WrongLine {
-            line: (said.place / 4) as usize,
-            field: (said.place % 4) as usize,
-        },
-        _ => TextFault::TooManyLines,
-    }
-}
-
-fn admission_fault(said: Said) -> AdmissionFault {
-    let row = (said.place % 256) as u8;
-    match said.code {
-        11 => AdmissionFault::NoRows,
-        12 => AdmissionFault::NumberOutside { row },
-        _ => AdmissionFault::LabelTwice { row },
-    }
-}
-
-// Why there is no answer: which table is at fault, where and why.
-fn print_fault(rt: &HostRuntime, paths: (&str, &str), said: Said) -> anyhow::Result<()> {
-    let (ours, theirs) = paths;
-    let code = said.code;
-    match said.layer {
-        1 => {
-            print!(rt; "no answer: our table {ours}: ")?;
-            phrases::print_text_fault(rt, text_fault(said))
-        }
-        2 => {
-            print!(rt; "no answer: their table {theirs}: ")?;
-            phrases::print_text_fault(rt, text_fault(said))
-        }
-        3 => {
-            print!(rt; "no answer: our table {ours}: ")?;
-            phrases::print_admission_fault(rt, admission_fault(said))
-        }
-        4 => {
-            print!(rt; "no answer: their table {theirs}: ")?;
-            phrases::print_admission_fault(rt, admission_fault(said))
-        }
-        5 => {
-            println!(rt;
-                "no answer ({code}): the two tables have more than {MAX_ROWS} rows together"
-            )?;
-            Ok(())
-        }
-        6 => {
-            let whose = if said.place == 0 { "our" } else { "their" };
-            println!(rt;
-                "no answer ({code}): {whose} table has no row with the number that was asked about"
-            )?;
-            Ok(())
-        }
-        _ => {
-            println!(rt;
-                "GREY, but the order that shows it cannot be written ({code}): its text is longer than {MAX_DOCUMENT} bytes"
-            )?;
-            Ok(())
-        }
-    }
-}
+use texts::RowText;
 
 // Which rows the addresses in an order are of: ours, or theirs, whose numbers rise by the count of ours.
 fn print_addresses(rt: &HostRuntime, nodes: &[Node], ours: usize) -> anyhow::Result<()> {
@@ -108,85 +30,128 @@ fn print_addresses(rt: &HostRuntime, nodes: &[Node], ours: usize) -> anyhow::Res
 fn print_grey(rt: &HostRuntime, text: &[u8], ours: usize) -> anyhow::Result<()> {
     println!(rt; "GREY: we could write an order that they could not read:")?;
     print!(rt; "  ")?;
-    if text.len() == 0 {
+    if text.is_empty() {
         print!(rt; "(the empty order)")?;
     }
     rt.stdout().write_all(text)?;
     println!(rt)?;
-    let mut nodes = [Node::Void; MAX_NODES];
-    match read_document(text, &mut nodes) {
-        Ok(count) if count >= 1 && count <= nodes.len() => {
-            ordering::print_tree(rt, &nodes[0..count], count - 1, 4)?;
-            print_addresses(rt, &nodes[0..count], ours)
+    let mut room = [Node::Void; MAX_NODES];
+    match ordering::read_nodes(text, &mut room) {
+        Ok(nodes) => {
+            ordering::print_tree(rt, nodes, 4)?;
+            print_addresses(rt, nodes, ours)
         }
-        _ => {
+        Err(_) => {
             println!(rt; "    (too deep or too large to be drawn as a tree)")?;
             Ok(())
         }
     }
 }
 
-// The bytes of a table's file; if it cannot be read, says why.
-fn load_bytes(rt: &HostRuntime, path: &str) -> anyhow::Result<Option<Vec<u8>>> {
-    match fs::read(rt, path) {
-        Ok(bytes) => Ok(Some(bytes)),
-        Err(error) => {
-            println!(rt; "{path}: the file cannot be read: {error}")?;
-            Ok(None)
+// A row of our table and a row of theirs, to be compared.
+#[derive(Clone, Copy)]
+struct Comparison<'a> {
+    ours: &'a str,
+    theirs: &'a str,
+    p: u64,
+    q: u64,
+    turned: bool,
+}
+
+impl<'a> Comparison<'a> {
+    // Whose table it is, and its path.
+    fn whose(&self, side: Side) -> (&'static str, &'a str) {
+        match side {
+            Side::Ours => ("our", self.ours),
+            Side::Theirs => ("their", self.theirs),
+        }
+    }
+
+    // Why there is no answer: which table is at fault, where and why.
+    fn print_fault(&self, rt: &HostRuntime, fault: CompareFault) -> anyhow::Result<()> {
+        let code = fault.code();
+        match fault {
+            CompareFault::Text(side, fault) => {
+                let (whose, path) = self.whose(side);
+                println!(rt; "no answer: {whose} table {path}: {fault}")?;
+            }
+            CompareFault::Admission(side, fault) => {
+                let (whose, path) = self.whose(side);
+                print!(rt; "no answer: {whose} table {path}: ")?;
+                phrases::print_admission_fault(rt, fault)?;
+            }
+            CompareFault::Joining(_) => println!(rt;
+                "no answer ({code}): the two tables have more than {MAX_ROWS} rows together"
+            )?,
+            CompareFault::Asking(side, _) => {
+                let (whose, _) = self.whose(side);
+                println!(rt;
+                    "no answer ({code}): {whose} table has no row with the number that was asked about"
+                )?;
+            }
+            CompareFault::Writing(_) => println!(rt;
+                "GREY, but the order that shows it cannot be written ({code}): its text is longer than {MAX_DOCUMENT} bytes"
+            )?,
+        }
+        Ok(())
+    }
+
+    // The answer in words; true if there is one.
+    fn ask(&self, rt: &HostRuntime) -> anyhow::Result<bool> {
+        let ours = opened(rt, self.ours, fs::read(rt, self.ours))?;
+        let theirs = opened(rt, self.theirs, fs::read(rt, self.theirs))?;
+        let (Some(ours), Some(theirs)) = (ours, theirs) else {
+            return Ok(false);
+        };
+        let mut buffer = [0u8; MAX_DOCUMENT];
+        let turned = self.turned as u64;
+        match question(&ours, &theirs, self.p, self.q, turned, &mut buffer) {
+            Ok(Finding::Yes) => {
+                println!(rt; "GREEN: every order that we can write is one that they can read")?;
+                Ok(true)
+            }
+            Ok(Finding::No { length }) => {
+                let text = buffer.get(..length).unwrap_or(&[]);
+                print_grey(rt, text, RowText::new(&ours).count())?;
+                Ok(true)
+            }
+            Err(fault) => {
+                self.print_fault(rt, fault)?;
+                Ok(false)
+            }
         }
     }
 }
 
-// One question, answered in words; true if it was answered.
-fn ask(rt: &HostRuntime, paths: (&str, &str), rows: (u64, u64), turn: u64) -> anyhow::Result<bool> {
-    let (Some(ours), Some(theirs)) = (load_bytes(rt, paths.0)?, load_bytes(rt, paths.1)?) else {
-        return Ok(false);
-    };
-    let mut buffer = [0u8; MAX_DOCUMENT];
-    let result = compare(
-        ours.as_slice(),
-        theirs.as_slice(),
-        rows.0,
-        rows.1,
-        turn,
-        &mut buffer,
-    );
-    let said = apart(result);
-    if said.layer != 0 {
-        print_fault(rt, paths, said)?;
-        return Ok(false);
-    }
-    if said.code == 0 {
-        println!(rt; "GREEN: every order that we can write is one that they can read")?;
-        return Ok(true);
-    }
-    let length = (said.place as usize).min(buffer.len());
-    let count = RowText::new(ours.as_slice()).count();
-    print_grey(rt, &buffer[0..length], count)?;
-    Ok(true)
-}
-
-// The words are our table, theirs, a row of ours, a row of theirs, and --turn if theirs is to be turned.
-pub(crate) fn compare_tables(rt: &HostRuntime, words: &[String]) -> anyhow::Result<bool> {
-    let [ours, theirs, first, second, more @ ..] = words else {
-        return Ok(false);
-    };
-    let turn = match more {
-        [] => 0,
-        [word] if word.as_str() == "--turn" => 1,
+// Our table and theirs, a row of ours and one of theirs, and --turn if theirs is to be turned.
+pub(crate) fn compare_tables(
+    rt: &HostRuntime,
+    tables: (&str, &str),
+    rows: (&str, &str),
+    more: &[&str],
+) -> anyhow::Result<bool> {
+    let turned = match more {
+        [] => false,
+        ["--turn"] => true,
         _ => {
             println!(rt; "only --turn may follow the two tables and the two rows")?;
             return Ok(false);
         }
     };
-    let (Ok(p), Ok(q)) = (
-        first.as_str().parse::<u64>(),
-        second.as_str().parse::<u64>(),
-    ) else {
+    let (ours, theirs) = tables;
+    let (first, second) = rows;
+    let (Ok(p), Ok(q)) = (first.parse::<u64>(), second.parse::<u64>()) else {
         println!(rt; "{first} {second}: two row numbers are asked for")?;
         return Ok(false);
     };
-    ask(rt, (ours.as_str(), theirs.as_str()), (p, q), turn)
+    let comparison = Comparison {
+        ours,
+        theirs,
+        p,
+        q,
+        turned,
+    };
+    comparison.ask(rt)
 }
 
 // A factory: its table and the row of its orders, as TABLE:ROW.
@@ -200,22 +165,30 @@ fn push_button(rt: &HostRuntime, ours: &str, p: u64, word: &str) -> anyhow::Resu
         return Ok(false);
     };
     print!(rt; "{theirs}: ")?;
-    ask(rt, (ours, theirs), (p, q), 0)
+    let comparison = Comparison {
+        ours,
+        theirs,
+        p,
+        q,
+        turned: false,
+    };
+    comparison.ask(rt)
 }
 
-// The words are our table, a row of it, and the factories.
-pub(crate) fn button(rt: &HostRuntime, words: &[String]) -> anyhow::Result<bool> {
-    let [ours, first, factories @ ..] = words else {
-        return Ok(false);
-    };
-    let Ok(p) = first.as_str().parse::<u64>() else {
+// Our table, a row of it, and the factories.
+pub(crate) fn button(
+    rt: &HostRuntime,
+    ours: &str,
+    first: &str,
+    factories: &[&str],
+) -> anyhow::Result<bool> {
+    let Ok(p) = first.parse::<u64>() else {
         println!(rt; "{first}: a row number is asked for")?;
         return Ok(false);
     };
-    let mut all = true;
-    for factory in factories {
-        let answered = push_button(rt, ours.as_str(), p, factory.as_str())?;
-        all = all && answered;
-    }
-    Ok(all)
+    each(
+        rt,
+        factories,
+        |rt, factory| push_button(rt, ours, p, factory),
+    )
 }

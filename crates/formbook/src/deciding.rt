@@ -1,37 +1,53 @@
 // formbook verdicts: which rows of a table are below which.
-use super::checking::load;
+use super::checking::{each, load};
 use super::phrases;
-use forms::FormSource;
-use sets;
 use texts::RowText;
 use verdicts::prepared::Prepared;
 
 // A line for each row: what it is.
 fn print_rows(rt: &HostRuntime, table: &RowText) -> anyhow::Result<()> {
-    for number in 0..table.count() {
-        if let Some(row) = table.row(number as u8) {
-            print!(rt; "  row {number}: ")?;
-            phrases::print_row(rt, row)?;
-            println!(rt)?;
-        }
+    for (number, row) in table.rows().iter().enumerate() {
+        print!(rt; "  row {number}: ")?;
+        phrases::print_row(rt, *row)?;
+        println!(rt)?;
     }
     Ok(())
 }
 
-// A line for each row: Y under each row that it is below, n under each other.
-fn print_square(rt: &HostRuntime, verdicts: &[u64], count: usize) -> anyhow::Result<()> {
+// The numbers of the rows, from 0.
+fn print_numbers(rt: &HostRuntime, count: u8) -> anyhow::Result<()> {
     print!(rt; "     ")?;
     for q in 0..count {
         print!(rt; " {q:>2}")?;
     }
     println!(rt)?;
+    Ok(())
+}
+
+// Y under each row that row p is below, n under each other.
+// As it is: each number of a row has a mark, so going through the members of the set would leave out the n.
+fn print_line(
+    rt: &HostRuntime,
+    prepared: &Prepared,
+    verdicts: &[u64],
+    p: u8,
+) -> anyhow::Result<()> {
+    print!(rt; "  {p:>2} ")?;
+    for q in 0..prepared.count() as u8 {
+        let below = prepared.relates(verdicts, p, q);
+        print!(rt; "  {}", if below { "Y" } else { "n" })?;
+    }
+    println!(rt)?;
+    Ok(())
+}
+
+// A line for each row.
+fn print_square(rt: &HostRuntime, prepared: &Prepared) -> anyhow::Result<()> {
+    let verdicts = prepared.verdicts();
+    let count = prepared.count() as u8;
+    print_numbers(rt, count)?;
     for p in 0..count {
-        print!(rt; "  {p:>2} ")?;
-        for q in 0..count {
-            let below = sets::test(verdicts, p.saturating_mul(count).saturating_add(q));
-            print!(rt; "  {}", if below { "Y" } else { "n" })?;
-        }
-        println!(rt)?;
+        print_line(rt, prepared, &verdicts, p)?;
     }
     Ok(())
 }
@@ -46,7 +62,7 @@ fn verdicts_of(rt: &HostRuntime, path: &str) -> anyhow::Result<bool> {
                 "{path}: Y where every order that fits the row at the left fits the row at the top"
             )?;
             print_rows(rt, &table)?;
-            print_square(rt, &prepared.verdicts(), prepared.count())?;
+            print_square(rt, &prepared)?;
             Ok(true)
         }
         Err(fault) => {
@@ -58,11 +74,6 @@ fn verdicts_of(rt: &HostRuntime, path: &str) -> anyhow::Result<bool> {
 }
 
 // Each table in turn; answers whether all are admitted.
-pub(crate) fn verdicts(rt: &HostRuntime, paths: &[String]) -> anyhow::Result<bool> {
-    let mut all = true;
-    for path in paths {
-        let admitted = verdicts_of(rt, path.as_str())?;
-        all = all && admitted;
-    }
-    Ok(all)
+pub(crate) fn verdicts(rt: &HostRuntime, paths: &[&str]) -> anyhow::Result<bool> {
+    each(rt, paths, |rt, path| verdicts_of(rt, path))
 }

@@ -1,6 +1,5 @@
 // formbook join: two tables side by side as one.
 use super::checking::load;
-use super::phrases;
 use forms::makes::{Joined, Turned};
 use forms::{FormSource, MAX_ROWS};
 use std::io::Write;
@@ -11,14 +10,11 @@ fn print_source<S: FormSource>(rt: &HostRuntime, source: &S) -> anyhow::Result<b
     let mut buffer = [0u8; MAX_TEXT];
     match write_rows(source, &mut buffer) {
         Ok(length) => {
-            if length <= buffer.len() {
-                rt.stdout().write_all(&buffer[0..length])?;
-            }
+            rt.stdout().write_all(buffer.get(..length).unwrap_or(&[]))?;
             Ok(true)
         }
         Err(fault) => {
-            print!(rt; "the joined table: ")?;
-            phrases::print_rows_fault(rt, fault)?;
+            println!(rt; "the joined table: {fault}")?;
             Ok(false)
         }
     }
@@ -28,7 +24,7 @@ fn join_tables(
     rt: &HostRuntime,
     first: RowText,
     second: RowText,
-    turn: bool,
+    turned: bool,
 ) -> anyhow::Result<bool> {
     let ours = first.count();
     let theirs = second.count();
@@ -38,37 +34,34 @@ fn join_tables(
         )?;
         return Ok(false);
     }
-    if turn {
-        print_source(
-            rt,
-            &Joined {
-                first,
-                second: Turned { source: second },
-            },
-        )
+    if turned {
+        let second = Turned { source: second };
+        print_source(rt, &Joined { first, second })
     } else {
         print_source(rt, &Joined { first, second })
     }
 }
 
-// The words are two tables, and --turn if the second is to be turned.
-pub(crate) fn join(rt: &HostRuntime, words: &[String]) -> anyhow::Result<bool> {
-    let (Some(ours), Some(theirs)) = (words.get(0), words.get(1)) else {
-        return Ok(false);
-    };
-    let turn = match words.get(2) {
-        Some(word) if word.as_str() == "--turn" => true,
-        Some(word) => {
+// Two tables, and --turn if the second is to be turned.
+pub(crate) fn join(
+    rt: &HostRuntime,
+    ours: &str,
+    theirs: &str,
+    more: &[&str],
+) -> anyhow::Result<bool> {
+    let turned = match more {
+        [] => false,
+        ["--turn"] => true,
+        [word, ..] => {
             println!(rt; "{word}: only --turn may follow the two tables")?;
             return Ok(false);
         }
-        None => false,
     };
-    let Some(first) = load(rt, ours.as_str())? else {
+    let Some(first) = load(rt, ours)? else {
         return Ok(false);
     };
-    let Some(second) = load(rt, theirs.as_str())? else {
+    let Some(second) = load(rt, theirs)? else {
         return Ok(false);
     };
-    join_tables(rt, first, second, turn)
+    join_tables(rt, first, second, turned)
 }

@@ -26,61 +26,61 @@ const USAGE: &str = "formbook: tables of forms, and the orders that fit them
 A TABLE is a file of row text (docs/FORMATS.md has the formats, docs/REFUSALS.md the refusals).
 ";
 
-fn usage(rt: &HostRuntime) -> anyhow::Result<()> {
-    print!(rt; "{USAGE}")?;
-    Ok(())
-}
-
 // The words of a command. It answers whether all went well.
-fn run(rt: &HostRuntime, words: &[String]) -> anyhow::Result<bool> {
-    let Some(command) = words.first() else {
-        usage(rt)?;
-        return Ok(true);
-    };
-    let rest = &words[1..];
-    match command.as_str() {
-        "check" if rest.len() > 0 => checking::check(rt, rest),
-        "join" if rest.len() == 2 || rest.len() == 3 => joining::join(rt, rest),
-        "verdicts" if rest.len() > 0 => deciding::verdicts(rt, rest),
-        "replay" if rest.len() == 2 => replaying::replay_script(rt, rest),
-        "compare" if rest.len() == 4 || rest.len() == 5 => comparing::compare_tables(rt, rest),
-        "button" if rest.len() > 2 => comparing::button(rt, rest),
-        "order" if rest.len() < 2 => ordering::order(rt, rest),
+fn run(rt: &HostRuntime, words: &[&str]) -> anyhow::Result<bool> {
+    match words {
+        ["check", paths @ ..] if !paths.is_empty() => checking::check(rt, paths),
+        ["join", ours, theirs, more @ ..] if more.len() < 2 => {
+            joining::join(rt, ours, theirs, more)
+        }
+        ["verdicts", paths @ ..] if !paths.is_empty() => deciding::verdicts(rt, paths),
+        ["replay", table, script] => replaying::replay_script(rt, table, script),
+        ["compare", ours, theirs, p, q, more @ ..] if more.len() < 2 => {
+            comparing::compare_tables(rt, (ours, theirs), (p, q), more)
+        }
+        ["button", ours, p, factories @ ..] if !factories.is_empty() => {
+            comparing::button(rt, ours, p, factories)
+        }
+        ["order"] => ordering::order(rt, ""),
+        ["order", text] => ordering::order(rt, text),
         _ => {
-            usage(rt)?;
-            Ok(false)
+            print!(rt; "{USAGE}")?;
+            Ok(words.is_empty())
         }
     }
 }
 
-// Each line of a file is a command; a line that is empty or begins with # is passed over.
+// A line of a file as a command; an empty line and one that begins with # are passed over.
+fn run_line(rt: &HostRuntime, line: &str) -> anyhow::Result<()> {
+    if line.is_empty() || line.starts_with("#") {
+        return Ok(());
+    }
+    println!(rt; "$ formbook {line}")?;
+    let words: Vec<&str> = line.split_whitespace().collect(rt.alloc())?;
+    let _ = run(rt, &words)?;
+    println!(rt)?;
+    Ok(())
+}
+
+// Each line of a file is a command.
 fn batch(rt: &HostRuntime, path: &str) -> anyhow::Result<bool> {
     let text = fs::read_to_string(rt, path)?;
     for line in text.as_str().lines() {
-        if line.is_empty() || line.starts_with("#") {
-            continue;
-        }
-        println!(rt; "$ formbook {line}")?;
-        let mut words = Vec::new(rt.alloc());
-        for word in line.split_whitespace() {
-            words.push(String::from_str(rt.alloc(), word)?)?;
-        }
-        let _ = run(rt, words.as_slice())?;
-        println!(rt)?;
+        run_line(rt, line)?;
     }
     Ok(true)
 }
 
 fn main(rt: HostRuntime) -> anyhow::Result<()> {
-    let mut words = Vec::new(rt.alloc());
-    for word in env::args(&rt)?.skip(1) {
-        words.push(word)?;
+    let given = env::args(&rt)?;
+    let mut owned = Vec::new(rt.alloc());
+    for word in given.skip(1) {
+        owned.push(word)?;
     }
-    let all = words.as_slice();
-    let well = if all.len() == 2 && all[0].as_str() == "batch" {
-        batch(&rt, all[1].as_str())?
-    } else {
-        run(&rt, all)?
+    let words: Vec<&str> = owned.iter().map(|word| word.as_str()).collect(rt.alloc())?;
+    let well = match words.as_slice() {
+        ["batch", path] => batch(&rt, path)?,
+        words => run(&rt, words)?,
     };
     if well {
         Ok(())

@@ -4,27 +4,14 @@ use documents::nodes::{MAX_NODES, Node};
 use documents::reader::read_document;
 use forms::refusals::Refused;
 
-fn print_spaces(rt: &HostRuntime, count: usize) -> anyhow::Result<()> {
-    for _ in 0..count {
-        print!(rt; " ")?;
-    }
-    Ok(())
-}
-
-// The document of a node, a line for each element and reference, what is inside an element two deeper.
-pub(crate) fn print_tree(
-    rt: &HostRuntime,
-    nodes: &[Node],
-    root: usize,
-    indent: usize,
-) -> anyhow::Result<()> {
-    let mut k = root;
-    while k < nodes.len() {
-        match nodes[k] {
+// The document of the last node, a line for each element and reference, what is inside an element two deeper.
+pub(crate) fn print_tree(rt: &HostRuntime, nodes: &[Node], indent: usize) -> anyhow::Result<()> {
+    let mut rest = nodes;
+    while let Some((node, lower)) = rest.split_last() {
+        match *node {
             Node::Void => return Ok(()),
             Node::Reference(row) => {
-                print_spaces(rt, indent)?;
-                println!(rt; "the address of row {row}")?;
+                println!(rt; "{:indent$}the address of row {row}", "")?;
                 return Ok(());
             }
             Node::Element {
@@ -32,15 +19,11 @@ pub(crate) fn print_tree(
                 inside,
                 following,
             } => {
-                print_spaces(rt, indent)?;
-                println!(rt; "element {label}")?;
-                if (inside as usize) < k {
-                    print_tree(rt, nodes, inside as usize, indent.saturating_add(2))?;
+                println!(rt; "{:indent$}element {label}", "")?;
+                if let Some(inner) = lower.get(..inside as usize + 1) {
+                    print_tree(rt, inner, indent.saturating_add(2))?;
                 }
-                if following as usize >= k {
-                    return Ok(());
-                }
-                k = following as usize;
+                rest = lower.get(..following as usize + 1).unwrap_or(&[]);
             }
         }
     }
@@ -70,54 +53,34 @@ fn print_nodes(rt: &HostRuntime, nodes: &[Node]) -> anyhow::Result<()> {
     Ok(())
 }
 
-fn print_caret(rt: &HostRuntime, text: &str, place: usize) -> anyhow::Result<()> {
-    println!(rt; "  {text}")?;
-    print_spaces(rt, place.saturating_add(2))?;
-    println!(rt; "^")?;
-    Ok(())
-}
-
+// Why a text is no order, and a caret under the place.
 pub(crate) fn print_fault(rt: &HostRuntime, text: &str, fault: ReadFault) -> anyhow::Result<()> {
-    let number = fault.number();
     match fault {
-        ReadFault::TooLong => println!(rt;
-            "this is no order ({number}): it has more than 32,768 bytes"
-        )?,
-        ReadFault::Wrong { place } if place < text.len() => {
-            println!(rt; "this is no order ({number}): at place {place} no order goes on so")?;
-            print_caret(rt, text, place)?;
-        }
-        ReadFault::Wrong { place } => {
+        ReadFault::Wrong { place } if place >= text.len() => {
+            let number = fault.number();
             println!(rt; "this is no order ({number}): it ends too early, at place {place}")?;
-            print_caret(rt, text, place)?;
         }
-        ReadFault::TooDeep { place } => {
-            println!(rt;
-                "this order is too deep ({number}): the bracket at place {place} opens a 65th level"
-            )?;
-            print_caret(rt, text, place)?;
-        }
-        ReadFault::TooManyNodes => println!(rt;
-            "this order is too large ({number}): it takes more than {MAX_NODES} nodes"
-        )?,
+        _ => println!(rt; "{fault}")?,
+    }
+    if let ReadFault::Wrong { place } | ReadFault::TooDeep { place } = fault {
+        println!(rt; "  {text}\n  {:place$}^", "")?;
     }
     Ok(())
 }
 
-// The word is the order's text; without a word, the empty order.
-pub(crate) fn order(rt: &HostRuntime, words: &[String]) -> anyhow::Result<bool> {
-    let text = match words.first() {
-        Some(word) => word.as_str(),
-        None => "",
-    };
-    let mut nodes = [Node::Void; MAX_NODES];
-    match read_document(text.as_bytes(), &mut nodes) {
-        Ok(count) => {
-            println!(rt; "an order; nodes: {count}")?;
-            if count >= 1 && count <= nodes.len() {
-                print_tree(rt, &nodes[0..count], count - 1, 2)?;
-                print_nodes(rt, &nodes[0..count])?;
-            }
+// Reads an order into room for its nodes, and answers those that it takes.
+pub(crate) fn read_nodes<'a>(text: &[u8], room: &'a mut [Node]) -> Result<&'a [Node], ReadFault> {
+    let count = read_document(text, room)?;
+    Ok(room.get(..count).unwrap_or(&[]))
+}
+
+pub(crate) fn order(rt: &HostRuntime, text: &str) -> anyhow::Result<bool> {
+    let mut room = [Node::Void; MAX_NODES];
+    match read_nodes(text.as_bytes(), &mut room) {
+        Ok(nodes) => {
+            println!(rt; "an order; nodes: {}", nodes.len())?;
+            print_tree(rt, nodes, 2)?;
+            print_nodes(rt, nodes)?;
             Ok(true)
         }
         Err(fault) => {

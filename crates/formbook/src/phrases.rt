@@ -3,9 +3,9 @@ use book::types::BookFault;
 use documents::nodes::MAX_NODES;
 use fitting::faults::FitFault;
 use forms::refusals::Refused;
-use forms::{Capability, LABELS, Row};
+use forms::{Capability, Row};
 use relation::AdmissionFault;
-use texts::{RowsFault, TextFault};
+use sets::Members;
 
 fn capability_word(capability: Capability) -> &'static str {
     match capability {
@@ -15,24 +15,31 @@ fn capability_word(capability: Capability) -> &'static str {
     }
 }
 
-fn print_labels(rt: &HostRuntime, labels: u64) -> anyhow::Result<()> {
-    if labels == 0 {
-        print!(rt; "no label")?;
+// The members of a set behind some words, with commas between them; other words for the empty set.
+pub(crate) fn print_members(
+    rt: &HostRuntime,
+    set: &[u64],
+    before: &str,
+    none: &str,
+) -> anyhow::Result<()> {
+    let mut members = Members::of(set);
+    let Some(first) = members.next() else {
+        print!(rt; "{none}")?;
         return Ok(());
+    };
+    print!(rt; "{before}{first}")?;
+    for member in members {
+        print!(rt; ", {member}")?;
     }
+    Ok(())
+}
+
+fn print_labels(rt: &HostRuntime, labels: u64) -> anyhow::Result<()> {
     if labels == u64::MAX {
         print!(rt; "any label")?;
         return Ok(());
     }
-    let mut some = false;
-    for k in 0..LABELS {
-        if (labels >> k) % 2 == 1 {
-            let before = if some { ", " } else { "labels " };
-            print!(rt; "{before}{k}")?;
-            some = true;
-        }
-    }
-    Ok(())
+    print_members(rt, &[labels], "labels ", "no label")
 }
 
 pub(crate) fn print_row(rt: &HostRuntime, row: Row) -> anyhow::Result<()> {
@@ -53,50 +60,6 @@ pub(crate) fn print_row(rt: &HostRuntime, row: Row) -> anyhow::Result<()> {
             print!(rt; "; inside row {inside}, then row {following}")?;
         }
         Row::Union(left, right) => print!(rt; "union: row {left} or row {right}")?,
-    }
-    Ok(())
-}
-
-fn field_word(field: usize) -> &'static str {
-    match field {
-        0 => "field 0, the kind: V, N, C, E or U is asked for",
-        1 =>
-            "field 1: i, o or b for C, 16 hexadecimal digits for E, else nothing is asked for, and then a comma",
-        2 =>
-            "field 2: a row number from 0 to 63 for C, E and U, else nothing is asked for, and then a comma",
-        _ =>
-            "field 3: a row number from 0 to 63 for E and U, else nothing is asked for, and then the end of the line",
-    }
-}
-
-pub(crate) fn print_text_fault(rt: &HostRuntime, fault: TextFault) -> anyhow::Result<()> {
-    let number = fault.number();
-    match fault {
-        TextFault::TooLong => println!(rt;
-            "the text is refused ({number}): it has more than 1,600 bytes"
-        )?,
-        TextFault::WrongLine { line, field } => {
-            let word = field_word(field);
-            println!(rt;
-                "the text is refused ({number}): line {line} is wrong at {word} (lines and fields are counted from 0)"
-            )?;
-        }
-        TextFault::TooManyLines => println!(rt;
-            "the text is refused ({number}): it has more than 64 lines"
-        )?,
-    }
-    Ok(())
-}
-
-pub(crate) fn print_rows_fault(rt: &HostRuntime, fault: RowsFault) -> anyhow::Result<()> {
-    let number = fault.number();
-    match fault {
-        RowsFault::NumberOver { row } => println!(rt;
-            "it cannot be written ({number}): row {row} has a number above 63, since it pointed past its own table"
-        )?,
-        RowsFault::NoRoom => println!(rt;
-            "it cannot be written ({number}): the text is longer than the buffer"
-        )?,
     }
     Ok(())
 }

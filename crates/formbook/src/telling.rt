@@ -4,9 +4,9 @@ use anyhow::anyhow;
 use book::types::{BookFault, Verdict};
 use documents::nodes::{MAX_DOCUMENT, Node};
 use documents::writer::write_document;
-use forms::MAX_ROWS;
+use relation::offering::ROW_WORDS;
 use replay::exchange::{Answer, Call};
-use sets;
+use sets::Members;
 use std::io::Write;
 
 fn print_new(rt: &HostRuntime, new: usize) -> anyhow::Result<()> {
@@ -50,12 +50,11 @@ fn print_looked_up(rt: &HostRuntime, pair: (u8, u8), found: Option<Verdict>) -> 
     Ok(())
 }
 
+// The pairs of a relation between so many rows.
 fn print_pairs(rt: &HostRuntime, relation: &[u64], count: usize) -> anyhow::Result<()> {
-    for p in 0..count {
-        for q in 0..count {
-            if sets::test(relation, p.saturating_mul(count).saturating_add(q)) {
-                print!(rt; " ({p}, {q})")?;
-            }
+    for pair in Members::of(relation) {
+        if let (Some(p), Some(q)) = (pair.checked_div(count), pair.checked_rem(count)) {
+            print!(rt; " ({p}, {q})")?;
         }
     }
     println!(rt)?;
@@ -79,61 +78,33 @@ fn print_handed_out(
 }
 
 // An order as its text.
-fn print_order(rt: &HostRuntime, nodes: &[Node], root: usize) -> anyhow::Result<()> {
+fn print_order(rt: &HostRuntime, nodes: &[Node]) -> anyhow::Result<()> {
     let mut buffer = [0u8; MAX_DOCUMENT];
+    let root = nodes.len().saturating_sub(1);
     match write_document(nodes, root, &mut buffer) {
         Ok(0) => print!(rt; "the empty order")?,
-        Ok(length) if length <= buffer.len() => rt.stdout().write_all(&buffer[0..length])?,
-        _ => print!(rt; "its text is too long to be written")?,
+        Ok(length) => rt.stdout().write_all(buffer.get(..length).unwrap_or(&[]))?,
+        Err(_) => print!(rt; "its text is too long to be written")?,
     }
     Ok(())
 }
 
-fn print_shown(
-    rt: &HostRuntime,
-    pair: (u8, u8),
-    many: usize,
-    buffer: &[Node],
-) -> anyhow::Result<()> {
+fn print_shown(rt: &HostRuntime, pair: (u8, u8), nodes: &[Node]) -> anyhow::Result<()> {
     let (p, q) = pair;
-    if many == 0 || many > buffer.len() {
-        return Err(anyhow!("an order has a node"));
-    }
-    let nodes = &buffer[0..many];
+    let many = nodes.len();
     print!(rt; "  an order that fits row {p} and not row {q} (nodes: {many}): ")?;
-    print_order(rt, nodes, many - 1)?;
+    print_order(rt, nodes)?;
     println!(rt)?;
-    ordering::print_tree(rt, nodes, many - 1, 4)
+    ordering::print_tree(rt, nodes, 4)
 }
 
-// The rows that a node is marked for.
-fn print_marks(rt: &HostRuntime, marks: &[u64], node: usize, count: usize) -> anyhow::Result<()> {
-    let mut some = false;
-    for row in 0..count {
-        let bit = node.saturating_mul(MAX_ROWS).saturating_add(row);
-        if sets::test(marks, bit) {
-            let before = if some { ", " } else { "; fits rows " };
-            print!(rt; "{before}{row}")?;
-            some = true;
-        }
-    }
-    if !some {
-        print!(rt; "; fits no row")?;
-    }
-    println!(rt)?;
-    Ok(())
-}
-
-fn print_marked(
-    rt: &HostRuntime,
-    nodes: &[Node],
-    marks: &[u64],
-    count: usize,
-) -> anyhow::Result<()> {
-    for (k, node) in nodes.iter().enumerate() {
+// Each node, and the rows that it is marked for.
+fn print_marked(rt: &HostRuntime, nodes: &[Node], marks: &[u64]) -> anyhow::Result<()> {
+    for ((k, node), rows) in nodes.iter().enumerate().zip(marks.chunks(ROW_WORDS)) {
         print!(rt; "    ")?;
         ordering::print_node(rt, k, *node)?;
-        print_marks(rt, marks, k, count)?;
+        phrases::print_members(rt, rows, "; fits rows ", "; fits no row")?;
+        println!(rt)?;
     }
     Ok(())
 }
@@ -175,11 +146,11 @@ fn print_given(rt: &HostRuntime, call: &Call, answer: &Answer, count: usize) -> 
             print_handed_out(rt, *many, relation, count)
         }
         (Call::Show(pair, _), Answer::Shown(Ok(many), nodes)) => {
-            print_shown(rt, *pair, *many, nodes)
+            print_shown(rt, *pair, nodes.get(..*many).unwrap_or(&[]))
         }
         (Call::Fit { nodes, row, .. }, Answer::Fitted(Ok(fitted), marks)) => {
             print_fitted(rt, *row, *fitted)?;
-            print_marked(rt, nodes, marks, count)
+            print_marked(rt, nodes, marks)
         }
         (Call::Clear, Answer::Cleared(Ok(()))) => {
             println!(rt; "  no pair is held any more")?;

@@ -49,6 +49,13 @@ impl RowText {
             },
         }
     }
+
+    // The rows as a slice.
+    pub fn rows(&self) -> &[Row]
+        ensures { result.now ≡ text_rows self.now }
+    {
+        self.table.rows()
+    }
 }
 
 impl FormSource for RowText {

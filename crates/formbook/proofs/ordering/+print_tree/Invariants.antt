@@ -1,11 +1,11 @@
-use Rattle.std.proofs.Common.{◌≤◌}
+use Rattle.std.proofs.Common.{length, ◌≤◌}
 use Rattle.formbook.proofs.ordering.+print_tree.Given as goal
 
 abbrev pub decreases-print_tree : goal.decreases-print_tree
-decreases-print_tree l = l.root
+decreases-print_tree l = length l.nodes.now
 
-abbrev pub invariant-loop-k : goal.invariant-loop-k
-invariant-loop-k l = l.k ≤ l.root
+abbrev pub invariant-loop-node : goal.invariant-loop-node
+invariant-loop-node l = length l.rest ≤ length l.nodes
 
-abbrev pub decreases-loop-k : goal.decreases-loop-k
-decreases-loop-k l = l.k
+abbrev pub decreases-loop-node : goal.decreases-loop-node
+decreases-loop-node l = length l.rest
