@@ -6,7 +6,7 @@ use book::types::Verdict;
 use documents::nodes::{MAX_DOCUMENT, MAX_NODES, Node};
 use documents::reader::read_document;
 use documents::writer::write_document;
-use forms::{FormSource, MAX_ROWS};
+use forms::MAX_ROWS;
 use relation::admission::admit;
 use std::time::Instant;
 use std::{env, fs};
@@ -35,7 +35,7 @@ fn measure_rows(rt: &HostRuntime, name: &str, text: &str) -> anyhow::Result<()> 
     for _ in 0..TIMES {
         if let Ok(table) = RowText::read(text.as_bytes()) {
             if admit(&table).is_ok() {
-                admitted = admitted.saturating_add(table.count());
+                admitted = admitted.saturating_add(table.rows().len());
             }
         }
     }
@@ -78,7 +78,7 @@ fn rows(rt: &HostRuntime) -> anyhow::Result<()> {
 // All verdicts of the table in a file.
 fn verdicts(rt: &HostRuntime, path: &str) -> anyhow::Result<()> {
     let bytes = fs::read(rt, path)?;
-    let table = RowText::new(bytes.as_slice());
+    let table = RowText::new(&bytes);
     match Prepared::of(&table) {
         Ok(prepared) => {
             let start = Instant::now(rt)?;
@@ -133,15 +133,13 @@ fn asking(rt: &HostRuntime, book: &mut Book<RowText>, pair: (u8, u8)) -> anyhow:
     Ok(best)
 }
 
-// How long an ask of a pair takes that was asked before, in nanoseconds.
-fn asking_again(rt: &HostRuntime, book: &mut Book<RowText>) -> anyhow::Result<u128> {
-    let mut yes = 0usize;
-    let start = Instant::now(rt)?;
-    for k in 0..TIMES {
-        if let Ok((Verdict::Yes, _)) = book.ask(((k % 7) as u8, (k % 11) as u8)) {
-            yes = yes.saturating_add(1);
-        }
-    }
+// The pairs that settled asks and look-ups go through.
+fn mixed(k: usize) -> (u8, u8) {
+    ((k % 7) as u8, (k % 11) as u8)
+}
+
+// The nanoseconds of each of many calls, from the first on; how many said yes keeps them from being left out.
+fn each_of(rt: &HostRuntime, start: Instant, yes: usize) -> anyhow::Result<u128> {
     let nanos = start.elapsed(rt)?.as_nanos() / TIMES as u128;
     if yes > TIMES {
         println!(rt; "more than all")?;
@@ -149,20 +147,29 @@ fn asking_again(rt: &HostRuntime, book: &mut Book<RowText>) -> anyhow::Result<u1
     Ok(nanos)
 }
 
-// How long a look-up takes, in nanoseconds.
-fn looking_up(rt: &HostRuntime, book: &Book<RowText>) -> anyhow::Result<u128> {
-    let mut yes = 0usize;
+// How long an ask of a pair takes that was asked before, in nanoseconds.
+fn asking_again(rt: &HostRuntime, book: &mut Book<RowText>) -> anyhow::Result<u128> {
     let start = Instant::now(rt)?;
+    let mut yes = 0usize;
     for k in 0..TIMES {
-        if let Ok(Some(Verdict::Yes)) = book.look_up(((k % 7) as u8, (k % 11) as u8)) {
+        if let Ok((Verdict::Yes, _)) = book.ask(mixed(k)) {
             yes = yes.saturating_add(1);
         }
     }
-    let nanos = start.elapsed(rt)?.as_nanos() / TIMES as u128;
-    if yes > TIMES {
-        println!(rt; "more than all")?;
+    each_of(rt, start, yes)
+}
+
+// How long a look-up takes, in nanoseconds.
+// As it is: an ask changes the book and a look-up does not, so one loop for both would need a closure that changes a capture, and is no shorter.
+fn looking_up(rt: &HostRuntime, book: &Book<RowText>) -> anyhow::Result<u128> {
+    let start = Instant::now(rt)?;
+    let mut yes = 0usize;
+    for k in 0..TIMES {
+        if let Ok(Some(Verdict::Yes)) = book.look_up(mixed(k)) {
+            yes = yes.saturating_add(1);
+        }
     }
-    Ok(nanos)
+    each_of(rt, start, yes)
 }
 
 // The slowest of the first asks of all pairs of a table, each on an empty book.
@@ -184,8 +191,8 @@ fn slowest(rt: &HostRuntime, book: &mut Book<RowText>) -> anyhow::Result<(u128, 
 // Making a book over a table, its slowest ask, an ask that is settled, and a look-up.
 fn books(rt: &HostRuntime, path: &str) -> anyhow::Result<()> {
     let bytes = fs::read(rt, path)?;
-    let made = making(rt, bytes.as_slice())?;
-    let mut book = Book::new(RowText::new(bytes.as_slice()));
+    let made = making(rt, &bytes)?;
+    let mut book = Book::new(RowText::new(&bytes));
     let (worst, (p, q)) = slowest(rt, &mut book)?;
     let _ = asking_again(rt, &mut book)?;
     let again = asking_again(rt, &mut book)?;
@@ -224,16 +231,12 @@ fn show_all(book: &Book<RowText>) -> usize {
     count
 }
 
-// All asks of the book over a table, and an order for each no, to be run with little stack.
-fn stack_book(rt: &HostRuntime, word: &str, path: &str) -> anyhow::Result<()> {
+// All asks of the book over a table, and if asked for an order for each no, to be run with little stack.
+fn stack_book(rt: &HostRuntime, word: &str, path: &str, show: bool) -> anyhow::Result<()> {
     let bytes = fs::read(rt, path)?;
-    let mut book = Book::new(RowText::new(bytes.as_slice()));
+    let mut book = Book::new(RowText::new(&bytes));
     let yes = ask_all(&mut book);
-    let shown = if word == "stack-show" {
-        show_all(&book)
-    } else {
-        0
-    };
+    let shown = if show { show_all(&book) } else { 0 };
     println!(rt; "{word}: {yes} {shown}")?;
     Ok(())
 }
@@ -269,12 +272,12 @@ fn measure_document(rt: &HostRuntime, name: &str, text: &str) -> anyhow::Result<
     let read = megabytes(text.len(), start.elapsed(rt)?.as_nanos());
     let bytes = text.len();
     println!(rt; "{name}: {bytes} bytes, {count} nodes, read at {read} MB/s")?;
-    if count == 0 || count > MAX_NODES {
+    let Some(root) = count.checked_sub(1) else {
         return Ok(());
-    }
+    };
     let mut buffer = [0u8; MAX_DOCUMENT];
     let again = Instant::now(rt)?;
-    let length = write_often(&nodes[0..count], count - 1, &mut buffer);
+    let length = write_often(nodes.get(..count).unwrap_or(&[]), root, &mut buffer);
     let wrote = megabytes(length, again.elapsed(rt)?.as_nanos());
     println!(rt; "{name}: {length} bytes written at {wrote} MB/s")?;
     Ok(())
@@ -290,21 +293,13 @@ fn documents(rt: &HostRuntime) -> anyhow::Result<()> {
 }
 
 // Each element follows the one before, or lies inside it.
-fn chain(nodes: &mut [Node], inside: bool) {
-    for k in 1..nodes.len().min(MAX_NODES) {
-        let before = (k - 1) as u16;
-        nodes[k] = if inside {
-            Node::Element {
-                label: 1,
-                inside: before,
-                following: 0,
-            }
-        } else {
-            Node::Element {
-                label: 1,
-                inside: 0,
-                following: before,
-            }
+fn chain(nodes: &mut [Node], is_inside: bool) {
+    for (before, node) in (0u16..).zip(nodes.iter_mut().skip(1)) {
+        let (inside, following) = if is_inside { (before, 0) } else { (0, before) };
+        *node = Node::Element {
+            label: 1,
+            inside,
+            following,
         };
     }
 }
@@ -331,34 +326,33 @@ fn stack(rt: &HostRuntime, word: &str) -> anyhow::Result<()> {
     Ok(())
 }
 
-fn main(rt: HostRuntime) -> anyhow::Result<()> {
-    let mut words = env::args(&rt)?.skip(1);
-    let word = match words.next() {
-        Some(word) => word,
-        None => String::new(rt.alloc()),
-    };
-    if word.as_str() == "books" {
-        for path in words {
-            books(&rt, path.as_str())?;
-        }
-        return Ok(());
+// Runs a measurement on each path in turn.
+fn each<F: Fn(&HostRuntime, &str) -> anyhow::Result<()>>(
+    rt: &HostRuntime,
+    paths: &[&str],
+    measurement: F,
+) -> anyhow::Result<()>
+    requires { F.IsAlwaysCallable measurement }
+{
+    for path in paths {
+        measurement(rt, path)?;
     }
-    if word.as_str() == "stack-ask" || word.as_str() == "stack-show" {
-        for path in words {
-            stack_book(&rt, word.as_str(), path.as_str())?;
-        }
-        return Ok(());
-    }
-    if word.as_str() == "verdicts" {
-        for path in words {
-            verdicts(&rt, path.as_str())?;
-        }
-        return Ok(());
-    }
-    match word.as_str() {
-        "rows" => rows(&rt),
-        "documents" => documents(&rt),
-        "stack-read" | "stack-row" | "stack-deep" => stack(&rt, word.as_str()),
+    Ok(())
+}
+
+fn run(rt: &HostRuntime, words: &[&str]) -> anyhow::Result<()> {
+    match words {
+        ["books", paths @ ..] => each(rt, paths, |rt, path| books(rt, path)),
+        ["stack-ask", paths @ ..] => each(rt, paths, |rt, path| {
+            stack_book(rt, "stack-ask", path, false)
+        }),
+        ["stack-show", paths @ ..] => each(rt, paths, |rt, path| {
+            stack_book(rt, "stack-show", path, true)
+        }),
+        ["verdicts", paths @ ..] => each(rt, paths, |rt, path| verdicts(rt, path)),
+        ["rows", ..] => rows(rt),
+        ["documents", ..] => documents(rt),
+        [word @ ("stack-read" | "stack-row" | "stack-deep"), ..] => stack(rt, word),
         _ => {
             println!(rt;
                 "measure rows | documents | verdicts TABLE... | stack-read | stack-row | stack-deep"
@@ -366,4 +360,13 @@ fn main(rt: HostRuntime) -> anyhow::Result<()> {
             Ok(())
         }
     }
+}
+
+fn main(rt: HostRuntime) -> anyhow::Result<()> {
+    let mut owned = Vec::new(rt.alloc());
+    for word in env::args(&rt)?.skip(1) {
+        owned.push(word)?;
+    }
+    let words: Vec<&str> = owned.iter().map(|word| word.as_str()).collect(rt.alloc())?;
+    run(&rt, &words)
 }
