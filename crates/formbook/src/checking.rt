@@ -81,8 +81,7 @@ fn check_one(rt: &HostRuntime, path: &str) -> anyhow::Result<bool> {
             Ok(true)
         }
         Err(fault) => {
-            print!(rt; "{path}: ")?;
-            phrases::print_admission_fault(rt, fault)?;
+            println!(rt; "{path}: {fault}")?;
             Ok(false)
         }
     }

@@ -59,39 +59,27 @@ struct Comparison<'a> {
 }
 
 impl<'a> Comparison<'a> {
-    // Whose table it is, and its path.
-    fn whose(&self, side: Side) -> (&'static str, &'a str) {
+    // The path of a table.
+    fn path(&self, side: Side) -> &'a str {
         match side {
-            Side::Ours => ("our", self.ours),
-            Side::Theirs => ("their", self.theirs),
+            Side::Ours => self.ours,
+            Side::Theirs => self.theirs,
         }
     }
 
     // Why there is no answer: which table is at fault, where and why.
     fn print_fault(&self, rt: &HostRuntime, fault: CompareFault) -> anyhow::Result<()> {
-        let code = fault.code();
         match fault {
             CompareFault::Text(side, fault) => {
-                let (whose, path) = self.whose(side);
-                println!(rt; "no answer: {whose} table {path}: {fault}")?;
+                let path = self.path(side);
+                println!(rt; "no answer: {side} table {path}: {fault}")?;
             }
             CompareFault::Admission(side, fault) => {
-                let (whose, path) = self.whose(side);
-                print!(rt; "no answer: {whose} table {path}: ")?;
-                phrases::print_admission_fault(rt, fault)?;
+                let path = self.path(side);
+                println!(rt; "no answer: {side} table {path}: {fault}")?;
             }
-            CompareFault::Joining(_) => println!(rt;
-                "no answer ({code}): the two tables have more than {MAX_ROWS} rows together"
-            )?,
-            CompareFault::Asking(side, _) => {
-                let (whose, _) = self.whose(side);
-                println!(rt;
-                    "no answer ({code}): {whose} table has no row with the number that was asked about"
-                )?;
-            }
-            CompareFault::Writing(_) => println!(rt;
-                "GREY, but the order that shows it cannot be written ({code}): its text is longer than {MAX_DOCUMENT} bytes"
-            )?,
+            CompareFault::Writing(_) => println!(rt; "GREY, but {fault}")?,
+            _ => println!(rt; "{fault}")?,
         }
         Ok(())
     }

@@ -66,8 +66,7 @@ fn verdicts_of(rt: &HostRuntime, path: &str) -> anyhow::Result<bool> {
             Ok(true)
         }
         Err(fault) => {
-            print!(rt; "{path}: ")?;
-            phrases::print_admission_fault(rt, fault)?;
+            println!(rt; "{path}: {fault}")?;
             Ok(false)
         }
     }

@@ -169,8 +169,7 @@ pub(crate) fn print_answer(
 ) -> anyhow::Result<bool> {
     match fault_of(answer) {
         Some(fault) => {
-            print!(rt; "  ")?;
-            phrases::print_book_fault(rt, fault)?;
+            println!(rt; "  {fault}")?;
             Ok(false)
         }
         None => {
