@@ -9,7 +9,7 @@ use super::values;
 use forms::Capability;
 
 // What a field can say: a kind, a capability, a label set (u64), a row number (u8), or nothing.
-pub(crate) trait Value: Sized {
+pub(crate) trait Value: Copy {
     ghost spells: { List ℕ → Self → Type 0 };
 
     fn parse(field: &[u8]) -> Option<Self>

@@ -1,38 +1,41 @@
 // The lines of a row text, one for each row.
 ghost use Rattle.texts.specs.declared.kinds.Kind.TheVariants.{Channel as channel-kind, Element as element-kind, Union as union-kind};
-ghost use Rattle.texts.specs.Reading.{BlanksRead, FieldsRead, LineRead};
+ghost use Rattle.texts.specs.Reading.{ThreeRead, BlanksRead, FieldsRead, LineRead};
 
 use super::fields;
+use super::fields::Value;
 use super::kinds::Kind;
 use forms::Row;
 
-// Fields 1 to 3 of a row that has nothing there: the text behind the line, or the first wrong field.
+// Fields 1 to 3 of a line and the text behind it, or the first wrong field.
+fn three<A: Value, B: Value, C: Value>(text: &[u8]) -> Result<((A, B, C), &[u8]), usize>
+    ensures { ThreeRead A.Value.spells B.Value.spells C.Value.spells text.now result }
+{
+    let (first, after_first) = fields::read(text, 1)?;
+    let (second, after_second) = fields::read(after_first, 2)?;
+    let (third, next) = fields::read(after_second, 3)?;
+    Ok(((first, second, third), next))
+}
+
+// The fields of a row that has nothing there.
 fn blanks(text: &[u8]) -> Result<&[u8], usize>
     ensures { BlanksRead text.now result }
 {
-    let ((), second) = fields::read::<()>(text, 1)?;
-    let ((), third) = fields::read::<()>(second, 2)?;
-    let ((), next) = fields::read::<()>(third, 3)?;
+    let (((), (), ()), next) = three(text)?;
     Ok(next)
 }
 
-// Fields 1 to 3 of a channel row.
 fn channel_fields(text: &[u8]) -> Result<(Row, &[u8]), usize>
     ensures { FieldsRead channel-kind text.now result }
 {
-    let (capability, second) = fields::read(text, 1)?;
-    let (payload, third) = fields::read(second, 2)?;
-    let ((), next) = fields::read::<()>(third, 3)?;
+    let ((capability, payload, ()), next) = three(text)?;
     Ok((Row::Channel(capability, payload), next))
 }
 
-// Fields 1 to 3 of an element row.
 fn element_fields(text: &[u8]) -> Result<(Row, &[u8]), usize>
     ensures { FieldsRead element-kind text.now result }
 {
-    let (labels, second) = fields::read(text, 1)?;
-    let (inside, third) = fields::read(second, 2)?;
-    let (following, next) = fields::read(third, 3)?;
+    let ((labels, inside, following), next) = three(text)?;
     Ok((
         Row::Element {
             labels,
@@ -43,13 +46,10 @@ fn element_fields(text: &[u8]) -> Result<(Row, &[u8]), usize>
     ))
 }
 
-// Fields 1 to 3 of a union row.
 fn union_fields(text: &[u8]) -> Result<(Row, &[u8]), usize>
     ensures { FieldsRead union-kind text.now result }
 {
-    let ((), second) = fields::read::<()>(text, 1)?;
-    let (left, third) = fields::read(second, 2)?;
-    let (right, next) = fields::read(third, 3)?;
+    let (((), left, right), next) = three(text)?;
     Ok((Row::Union(left, right), next))
 }
 
