@@ -11,7 +11,7 @@ use Rattle.forms.specs.Splices.{Wrote}
 use Rattle.forms.proofs.Splices.{wrote_both}
 use Rattle.documents.specs.declared.nodes.Node.{Node}
 use Rattle.documents.specs.declared.nodes.Node.TheVariants.{Void, Reference, Element}
-use Rattle.documents.specs.declared.writer.Shape.TheVariants.{Single, Chain, Address}
+use Rattle.documents.specs.declared.writer.Shape.TheVariants.{Branch, Address}
 use Rattle.documents.specs.Grammar.{comma_before, spelled_document}
 use Rattle.documents.specs.Nodes.{Sound, StandsFor}
 use Rattle.documents.specs.Nodes.StandsFor.{for_void, for_reference, for_element}
@@ -56,7 +56,7 @@ module _ (nodes : List Node) (k : ℕ) (sound : Sound nodes) (lt : k < length no
     pub following_within : f < length nodes
     following_within = omega (arith, parts.2)
 
-    pub look_single : get_or nodes f Void ≡ Void → Shaped nodes k (Single l i)
+    pub look_single : get_or nodes f Void ≡ Void → Shaped nodes k (Branch l i None)
     look_single v = (
       parts.0,
       parts.1,
@@ -65,13 +65,13 @@ module _ (nodes : List Node) (k : ℕ) (sound : Sound nodes) (lt : k < length no
           (a, is ∙ ap (element l a) (of_void (slice_get-get_or nodes f Void following_within ∙ ap Some v) q), p),
     )
 
-    followed : ((b : Document) → StandsFor nodes f b → comma_before b ≡ 44 ∷ []) → Shaped nodes k (Chain l i f)
+    followed : ((b : Document) → StandsFor nodes f b → comma_before b ≡ 44 ∷ []) → Shaped nodes k (Branch l i (Some f))
     followed some = (parts.0, parts.1, parts.2, λ x h. let (a, b, is, p, q) = of_element (is_node (Element l i f) e) h in (a, b, is, some b q, p, q))
 
-    pub look_then_address : (c : ℕ) → get_or nodes f Void ≡ Reference c → Shaped nodes k (Chain l i f)
+    pub look_then_address : (c : ℕ) → get_or nodes f Void ≡ Reference c → Shaped nodes k (Branch l i (Some f))
     look_then_address c v = followed (λ b q. ap comma_before (of_reference (slice_get-get_or nodes f Void following_within ∙ ap Some v) q))
 
-    pub look_then_element : (m p q : ℕ) → get_or nodes f Void ≡ Element m p q → Shaped nodes k (Chain l i f)
+    pub look_then_element : (m p q : ℕ) → get_or nodes f Void ≡ Element m p q → Shaped nodes k (Branch l i (Some f))
     look_then_element m p q v = followed (λ b h. ap comma_before (of_element (slice_get-get_or nodes f Void following_within ∙ ap Some v) h).2)
 
 -- which node is the lowest that is not sound, in whatever sense

@@ -21,6 +21,7 @@ pub struct Reached {
 }
 
 // The byte at a place, or 0 at the end.
+// As it is: 0 is none of the bytes that reading asks for, and with `get` each question would be about an `Option` of a reference.
 fn byte_at(text: &[u8], place: usize) -> u8
     ensures { result ≡ slice_index text.now place }
 {
@@ -28,13 +29,12 @@ fn byte_at(text: &[u8], place: usize) -> u8
 }
 
 // The place behind a byte, but not behind the end.
-// As it is: as a `min` with the length it would need a sum that is known to fit.
 fn skip(text: &[u8], place: usize) -> usize
     requires { place ≤ length text.now }
     ensures on { place < length text.now → result ≡ place + 1 }
     ensures within { (place ≤ result) × (result ≤ length text.now) }
 {
-    if place < text.len() { place + 1 } else { place }
+    place.saturating_add(1).min(text.len())
 }
 
 // The digit at a place.
@@ -45,6 +45,7 @@ fn digit_at(text: &[u8], place: usize) -> Option<u8>
 }
 
 // The number at a place, of one digit or two, and the place behind it.
+// As it is: the text has been judged, so a number stands there, and `None` would ask for an answer that never comes.
 fn number(text: &[u8], place: usize) -> (u8, usize)
     requires { place ≤ length text.now }
     ensures within { (place ≤ result.1) × (result.1 ≤ length text.now) }

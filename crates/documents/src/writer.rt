@@ -16,13 +16,12 @@ use super::nodes::{MAX_DOCUMENT, MAX_NODES, Node};
 use forms::bytes::{digits, put, put_number};
 use forms::{LABELS, MAX_ROWS};
 
-// A node by its text: none, an address, an element alone, an element with more behind it.
+// A node by its text: none, an address, or an element with what follows it, if its text is not empty.
 #[derive(Clone, Copy)]
 pub enum Shape {
     Empty,
     Address(u8),
-    Single(u8, u16),
-    Chain(u8, u16, u16),
+    Branch(u8, u16, Option<u16>),
 }
 
 // The lowest node that is not sound.
@@ -74,9 +73,10 @@ impl<'a> Table<'a> {
                 inside,
                 following,
             } => match self.nodes[following as usize] {
-                Node::Void => Shape::Single(label, inside),
-                Node::Reference(_) => Shape::Chain(label, inside, following),
-                Node::Element { .. } => Shape::Chain(label, inside, following),
+                Node::Void => Shape::Branch(label, inside, None),
+                Node::Reference(_) | Node::Element { .. } => {
+                    Shape::Branch(label, inside, Some(following))
+                }
             },
         }
     }
@@ -89,14 +89,13 @@ impl<'a> Table<'a> {
         match self.look(k) {
             Shape::Empty => Some(room),
             Shape::Address(row) => spend(room, 1 + digits(row)),
-            Shape::Single(label, inside) => {
+            Shape::Branch(label, inside, following) => {
                 let left = spend(room, 2 + digits(label))?;
-                self.measure(inside, left)
-            }
-            Shape::Chain(label, inside, following) => {
-                let left = spend(room, 3 + digits(label))?;
-                let more = self.measure(inside, left)?;
-                self.measure(following, more)
+                let behind = self.measure(inside, left)?;
+                match following {
+                    None => Some(behind),
+                    Some(next) => self.measure(next, spend(behind, 1)?),
+                }
             }
         }
     }
@@ -113,19 +112,18 @@ impl<'a> Table<'a> {
                 let at = put(out, place, b'@');
                 put_number(out, at, row)
             }
-            Shape::Single(label, inside) => {
-                let opens = put_number(out, place, label);
-                let start = put(out, opens, b'[');
-                let end = self.write(inside, out, start);
-                put(out, end, b']')
-            }
-            Shape::Chain(label, inside, following) => {
+            Shape::Branch(label, inside, following) => {
                 let opens = put_number(out, place, label);
                 let start = put(out, opens, b'[');
                 let end = self.write(inside, out, start);
                 let shut = put(out, end, b']');
-                let comma = put(out, shut, b',');
-                self.write(following, out, comma)
+                match following {
+                    None => shut,
+                    Some(next) => {
+                        let comma = put(out, shut, b',');
+                        self.write(next, out, comma)
+                    }
+                }
             }
         }
     }
