@@ -31,6 +31,7 @@ fn sound(prepared: &Prepared, k: usize, node: Node) -> bool
 }
 
 // The lowest node that is not sound.
+// As it is: one function for this and for the writer's nodes would be public and take the test, and so ask that it may be called; no public function here asks anything.
 fn unsound(prepared: &Prepared, nodes: &[Node]) -> Option<usize>
     ensures { MatchOption result (SoundOver (rows_in prepared.now) nodes.now) (λ k. Lowest (UnsoundOver (rows_in prepared.now) nodes.now) k) }
 {

@@ -6,6 +6,7 @@ use forms::refusals::Refused;
 use std::error::Error;
 use std::fmt;
 
+// As it is: writing has three of these cases too; an enum for the three inside both would put a case into a case for every caller.
 #[derive(Clone, Copy, PartialEq, Eq, Debug)]
 pub enum FitFault {
     // more nodes than a table may have
