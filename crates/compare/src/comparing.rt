@@ -36,6 +36,7 @@ pub enum Finding {
 }
 
 // The number that says what is found, or which fault.
+// As it is: a program in C takes one number.
 pub(crate) fn number(found: Result<Finding, CompareFault>) -> u64
     requires { answer found < 2 ^ 64 }
     ensures { result ≡ answer found }

@@ -120,6 +120,7 @@ impl CompareFault {
     }
 
     // All three as one number.
+    // As it is: a program in C takes one number.
     pub(crate) fn packed(&self) -> u64
         requires { packed-number (report self.now) < 2 ^ 64 }
         ensures { result ≡ packed-number (report self.now) }
