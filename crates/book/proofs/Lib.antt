@@ -9,7 +9,6 @@ pub mod Fitting
 pub mod Witnessing
 pub mod Taking
 pub mod Meeting
-pub mod Mapping
 pub mod Same
 pub mod Worked
 pub mod Runs

@@ -31,13 +31,11 @@ impl<S: FormSource> Book<S> {
     pub(crate) fn open(&self) -> Result<&Ledger, AdmissionFault>
         ensures { MatchResult result (λ l. self.now.pages ≡ Ok l.now) (λ e. self.now.pages ≡ Err e) }
     {
-        match &self.pages {
-            Ok(ledger) => Ok(ledger),
-            Err(fault) => Err(*fault),
-        }
+        self.pages.as_ref().map_err(|fault| *fault)
     }
 
     // The same, to be written to.
+    // As it is: the borrow checker does not cover `map_err` after `as_mut`, since of the two `&mut` only one outlives the call.
     fn open_mut(&mut self) -> Result<&mut Ledger, AdmissionFault>
         ensures* lends { sem 𝓛 (LendsPages S.row self.entry result) }
         ensures value { MatchResult result (λ l. self.old.pages ≡ Ok l.now) (λ e. self.old.pages ≡ Err e) }

@@ -1,7 +1,7 @@
 // What a book answers, and why it refuses.
 ghost use Rattle.std.specs.Prelude.{◌≡◌};
 ghost use Rattle.book.specs.Faults.{book_refusal};
-ghost use Rattle.book.specs.declared.types.BookFault.TheVariants.{NotAdmitted};
+ghost use Rattle.book.specs.declared.types.BookFault.TheVariants.{NotAdmitted, NotFitted};
 
 use fitting::faults::FitFault;
 use forms::refusals::Refused;
@@ -40,6 +40,14 @@ impl From<AdmissionFault> for BookFault {
 
     fn from(e: AdmissionFault) -> BookFault {
         BookFault::NotAdmitted(e)
+    }
+}
+
+impl From<FitFault> for BookFault {
+    ghost from_gives = { λ e f. f ≡ NotFitted e };
+
+    fn from(e: FitFault) -> BookFault {
+        BookFault::NotFitted(e)
     }
 }
 

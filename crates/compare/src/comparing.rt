@@ -36,6 +36,7 @@ pub enum Finding {
 }
 
 // The number that says what is found, or which fault.
+// As it is: a program in C takes one number.
 pub(crate) fn number(found: Result<Finding, CompareFault>) -> u64
     requires { answer found < 2 ^ 64 }
     ensures { result ≡ answer found }
@@ -77,7 +78,7 @@ fn check_both(first: &RowText, second: &RowText) -> Result<(), CompareFault>
     admitted(Side::Ours, first)?;
     admitted(Side::Theirs, second)?;
     if first.count() + second.count() > MAX_ROWS {
-        return Err(CompareFault::Joining(JoinFault::TooManyRows));
+        return Err(JoinFault::TooManyRows.into());
     }
     Ok(())
 }
@@ -110,10 +111,8 @@ fn write_order<S: FormSource>(
 {
     let mut nodes = [Node::Void; MAX_NODES];
     let count = book.show(pair, &mut nodes).unwrap();
-    match write_document(&nodes[..count], count - 1, buffer) {
-        Ok(length) => Ok(Finding::No { length }),
-        Err(fault) => Err(CompareFault::Writing(fault)),
-    }
+    let length = write_document(&nodes[..count], count - 1, buffer)?;
+    Ok(Finding::No { length })
 }
 
 // What is found of two rows of an admitted table.

@@ -1,5 +1,6 @@
 // Why a question is refused: the layer that refuses it, the fault's number, and where it lies.
 ghost use Rattle.std.specs.Prelude.{◌≡◌, ◌^◌, ◌<◌};
+ghost use Rattle.compare.specs.declared.faults.CompareFault.TheVariants.{Joining, Writing};
 ghost use Rattle.compare.specs.Reports.{which, join_refusal, report, packed as packed-number};
 
 use book::types::BookFault;
@@ -35,6 +36,22 @@ pub enum CompareFault {
     Asking(Side, BookFault),
     // the order is not written
     Writing(WriteFault),
+}
+
+impl From<JoinFault> for CompareFault {
+    ghost from_gives = { λ e f. f ≡ Joining e };
+
+    fn from(e: JoinFault) -> CompareFault {
+        CompareFault::Joining(e)
+    }
+}
+
+impl From<WriteFault> for CompareFault {
+    ghost from_gives = { λ e f. f ≡ Writing e };
+
+    fn from(e: WriteFault) -> CompareFault {
+        CompareFault::Writing(e)
+    }
 }
 
 // 0 for ours, 1 for theirs.
@@ -103,6 +120,7 @@ impl CompareFault {
     }
 
     // All three as one number.
+    // As it is: a program in C takes one number.
     pub(crate) fn packed(&self) -> u64
         requires { packed-number (report self.now) < 2 ^ 64 }
         ensures { result ≡ packed-number (report self.now) }

@@ -49,7 +49,8 @@ impl Ledger {
         if row as usize >= self.prepared.count() {
             return Err(BookFault::RowOutside);
         }
-        check(&self.prepared, nodes, root, marks).map_err(BookFault::NotFitted)
+        check(&self.prepared, nodes, root, marks)?;
+        Ok(())
     }
 
     // Marks for each node the rows that it fits by the pairs that are yes, and tells whether the root fits the row.

@@ -24,7 +24,7 @@ pub(crate) fn numbers_for(n: usize) -> usize
     ensures is { result ≡ words_for n }
     ensures few { result ≤ max_rows * max_rows / word }
 {
-    (n * n + (sets::WORD - 1)) / sets::WORD
+    (n * n).div_ceil(sets::WORD)
 }
 
 impl Ledger {

@@ -1,15 +1,18 @@
 use Rattle.std.proofs.Common.{sym, subst, arith}
-use Rattle.std.proofs.lemmas.Result.{MatchResult-at_ok, MatchResult-at_err}
+use Rattle.std.proofs.lemmas.Result.{err_from_is_err_and}
 use Rattle.fitting.specs.Fittable.{Unfit}
 use Rattle.fitting.specs.Faults.{fit_refusal}
 use Rattle.book.specs.Ledgers.{ledger_rows}
 use Rattle.book.proofs.Fitting.{fit_refused}
-use Rattle.book.proofs.Mapping.{mapped}
 use Rattle.book.proofs.ledger.Ledger.fittable.Goals as goal
 
-pub returns : goal.returns
-returns c =
+pub returns-in_err-check : goal.returns-in_err-check
+returns-in_err-check c =
     let l = c.args.self.now in
-    mapped _ _ _ c.check.result c.map_err.result c.map_err.ensures.cases (λ x e. (omega arith, MatchResult-at_ok _ _ x e c.check.ensures.checked))
-    (λ e d was is words long. rw is (fit_refused l c.args.nodes.now c.args.root c.args.row words (fit_refusal e) (omega arith)
-    (subst (λ m. Unfit (ledger_rows l) c.args.nodes.now c.args.root m (fit_refusal e)) (sym long) (MatchResult-at_err _ _ e was c.check.ensures.checked))))
+    let e = c.in_err-check.field-0.0 in
+    let p = err_from_is_err_and c.from_residual.result c.from_residual.ensures.1 in
+    rw (p.1, p.2) (λ words long. fit_refused l c.args.nodes.now c.args.root c.args.row words (fit_refusal e) (omega arith)
+    (subst (λ m. Unfit (ledger_rows l) c.args.nodes.now c.args.root m (fit_refusal e)) (sym long) c.in_err-check.ensures.checked))
+
+pub returns : goal.returns
+returns c = (omega arith, c.in_ok-check.ensures.checked)
