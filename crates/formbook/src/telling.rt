@@ -120,14 +120,14 @@ fn print_fitted(rt: &HostRuntime, row: u8, fitted: (bool, usize)) -> anyhow::Res
 
 fn fault_of(answer: &Answer) -> Option<BookFault> {
     match answer {
-        Answer::Asked(Err(fault)) => Some(*fault),
-        Answer::Offered(Err(fault)) => Some(*fault),
-        Answer::LookedUp(Err(fault)) => Some(*fault),
-        Answer::Counted(Err(fault)) => Some(*fault),
-        Answer::HandedOut(Err(fault), _) => Some(*fault),
-        Answer::Shown(Err(fault), _) => Some(*fault),
-        Answer::Fitted(Err(fault), _) => Some(*fault),
-        Answer::Cleared(Err(fault)) => Some(*fault),
+        Answer::Asked(Err(fault))
+        | Answer::Offered(Err(fault))
+        | Answer::LookedUp(Err(fault))
+        | Answer::Counted(Err(fault))
+        | Answer::HandedOut(Err(fault), _)
+        | Answer::Shown(Err(fault), _)
+        | Answer::Fitted(Err(fault), _)
+        | Answer::Cleared(Err(fault)) => Some(*fault),
         _ => None,
     }
 }
