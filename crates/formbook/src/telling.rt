@@ -18,6 +18,7 @@ fn print_new(rt: &HostRuntime, new: usize) -> anyhow::Result<()> {
     Ok(())
 }
 
+// As it is: the type is another crate's, so Display for it would stand there, and these words are this program's alone.
 fn print_verdict(rt: &HostRuntime, pair: (u8, u8), verdict: Verdict) -> anyhow::Result<()> {
     let (p, q) = pair;
     match verdict {
