@@ -39,7 +39,7 @@ pub(crate) fn opened<T: Drop>(
 }
 
 // Reads a table from a file; if that fails, says why.
-// As it is: with a Result in place of the Option each caller would print the fault, which is printed once here.
+// As it is: an error would end the program, and after a table that cannot be read the next table or command of a batch still runs.
 pub(crate) fn load(rt: &HostRuntime, path: &str) -> anyhow::Result<Option<RowText>> {
     let Some(bytes) = opened(rt, path, fs::read(rt, path))? else {
         return Ok(None);

@@ -1,5 +1,6 @@
 // formbook compare and formbook button: whether a factory can read every order that we can write.
 use super::checking::{each, opened};
+use super::joining::turning;
 use super::{ordering, phrases};
 use compare::comparing::Finding;
 use compare::faults::{CompareFault, Side};
@@ -118,14 +119,11 @@ pub(crate) fn compare_tables(
     rows: (&str, &str),
     more: &[&str],
 ) -> anyhow::Result<bool> {
-    let turned = match more {
-        [] => false,
-        ["--turn"] => true,
-        _ => {
-            println!(rt; "only --turn may follow the two tables and the two rows")?;
-            return Ok(false);
-        }
-    };
+    let (turned, rest) = turning(more);
+    if !rest.is_empty() {
+        println!(rt; "only --turn may follow the two tables and the two rows")?;
+        return Ok(false);
+    }
     let (ours, theirs) = tables;
     let (first, second) = rows;
     let (Ok(p), Ok(q)) = (first.parse::<u64>(), second.parse::<u64>()) else {

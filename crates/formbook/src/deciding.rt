@@ -25,7 +25,6 @@ fn print_numbers(rt: &HostRuntime, count: u8) -> anyhow::Result<()> {
 }
 
 // Y under each row that row p is below, n under each other.
-// As it is: each number of a row has a mark, so going through the members of the set would leave out the n.
 fn print_line(
     rt: &HostRuntime,
     prepared: &Prepared,

@@ -42,6 +42,14 @@ fn join_tables(
     }
 }
 
+// Whether --turn is the first of some words, and the words without it.
+pub(crate) fn turning<'a, 'b>(words: &'a [&'b str]) -> (bool, &'a [&'b str]) {
+    match words {
+        ["--turn", rest @ ..] => (true, rest),
+        _ => (false, words),
+    }
+}
+
 // Two tables, and --turn if the second is to be turned.
 pub(crate) fn join(
     rt: &HostRuntime,
@@ -49,14 +57,11 @@ pub(crate) fn join(
     theirs: &str,
     more: &[&str],
 ) -> anyhow::Result<bool> {
-    let turned = match more {
-        [] => false,
-        ["--turn"] => true,
-        [word, ..] => {
-            println!(rt; "{word}: only --turn may follow the two tables")?;
-            return Ok(false);
-        }
-    };
+    let (turned, rest) = turning(more);
+    if let [word, ..] = rest {
+        println!(rt; "{word}: only --turn may follow the two tables")?;
+        return Ok(false);
+    }
     let Some(first) = load(rt, ours)? else {
         return Ok(false);
     };

@@ -7,6 +7,7 @@ use forms::{Capability, Row};
 use relation::AdmissionFault;
 use sets::Members;
 
+// As it is: the type is another crate's, so Display for it would stand there, and these words are this program's alone.
 fn capability_word(capability: Capability) -> &'static str {
     match capability {
         Capability::In => "to receive from (in)",
@@ -42,6 +43,7 @@ fn print_labels(rt: &HostRuntime, labels: u64) -> anyhow::Result<()> {
     print_members(rt, &[labels], "labels ", "no label")
 }
 
+// As it is: the type is another crate's, so Display for it would stand there, and these words are this program's alone.
 pub(crate) fn print_row(rt: &HostRuntime, row: Row) -> anyhow::Result<()> {
     match row {
         Row::Void => print!(rt; "void: the empty document")?,

@@ -18,6 +18,7 @@ fn print_new(rt: &HostRuntime, new: usize) -> anyhow::Result<()> {
     Ok(())
 }
 
+// As it is: the type is another crate's, so Display for it would stand there, and these words are this program's alone.
 fn print_verdict(rt: &HostRuntime, pair: (u8, u8), verdict: Verdict) -> anyhow::Result<()> {
     let (p, q) = pair;
     match verdict {
@@ -120,14 +121,14 @@ fn print_fitted(rt: &HostRuntime, row: u8, fitted: (bool, usize)) -> anyhow::Res
 
 fn fault_of(answer: &Answer) -> Option<BookFault> {
     match answer {
-        Answer::Asked(Err(fault)) => Some(*fault),
-        Answer::Offered(Err(fault)) => Some(*fault),
-        Answer::LookedUp(Err(fault)) => Some(*fault),
-        Answer::Counted(Err(fault)) => Some(*fault),
-        Answer::HandedOut(Err(fault), _) => Some(*fault),
-        Answer::Shown(Err(fault), _) => Some(*fault),
-        Answer::Fitted(Err(fault), _) => Some(*fault),
-        Answer::Cleared(Err(fault)) => Some(*fault),
+        Answer::Asked(Err(fault))
+        | Answer::Offered(Err(fault))
+        | Answer::LookedUp(Err(fault))
+        | Answer::Counted(Err(fault))
+        | Answer::HandedOut(Err(fault), _)
+        | Answer::Shown(Err(fault), _)
+        | Answer::Fitted(Err(fault), _)
+        | Answer::Cleared(Err(fault)) => Some(*fault),
         _ => None,
     }
 }

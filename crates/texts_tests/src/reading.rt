@@ -25,8 +25,8 @@ fn refused(rt: &impl Abort, text: &[u8], fault: TextFault) -> Result<(), Fail> {
 // The line repeated until the text is full.
 fn fill(line: &[u8], text: &mut [u8]) {
     if line.len() > 0 {
-        for i in 0..text.len() {
-            text[i] = line[i % line.len()];
+        for (i, byte) in text.iter_mut().enumerate() {
+            *byte = line[i % line.len()];
         }
     }
 }
