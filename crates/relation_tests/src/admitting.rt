@@ -1,5 +1,6 @@
 // Which tables are admitted, and which fault is found.
 use forms::buffer::RowBuffer;
+use forms::refusals::Refused;
 use forms::{Capability, Row};
 use relation::AdmissionFault;
 use relation::admission::{admit, meets};
