@@ -1,12 +1,12 @@
 // formbook compare and formbook button: whether a factory can read every order that we can write.
 use super::checking::{each, opened};
 use super::joining::turning;
-use super::{ordering, phrases};
+use super::ordering;
 use compare::comparing::Finding;
 use compare::faults::{CompareFault, Side};
 use compare::question;
 use documents::nodes::{MAX_DOCUMENT, MAX_NODES, Node};
-use forms::{FormSource, MAX_ROWS};
+use forms::FormSource;
 use std::fs;
 use std::io::Write;
 use texts::RowText;

@@ -1,10 +1,5 @@
 // Rows and refusals in words.
-use book::types::BookFault;
-use documents::nodes::MAX_NODES;
-use fitting::faults::FitFault;
-use forms::refusals::Refused;
 use forms::{Capability, Row};
-use relation::AdmissionFault;
 use sets::Members;
 
 // As it is: the type is another crate's, so Display for it would stand there, and these words are this program's alone.
