@@ -11,6 +11,7 @@ pub const MAX_NODES: usize = MAX_ROWS * (MAX_ROWS + 1);
 pub const MAX_DOCUMENT: usize = 32768;
 
 // A node of a document table. An element names its label and, by their numbers, the nodes of its inside and of what follows it.
+// As it is: the format names rows and nodes by numbers, nodes may be shared, and no table here takes memory from a heap.
 #[derive(Clone, Copy, PartialEq, Eq, Debug)]
 pub enum Node {
     Void,

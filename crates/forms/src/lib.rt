@@ -26,6 +26,7 @@ pub enum Capability {
 }
 
 // A form. Numbers in it are those of rows of the same table, its own among them.
+// As it is: the format names rows by numbers, rows may name one another in a ring, and no table here takes memory from a heap.
 #[derive(Clone, Copy, PartialEq, Eq, Debug)]
 pub enum Row {
     // the empty document

@@ -42,6 +42,7 @@ fn shifted(by: u8, own: usize, row: Row) -> Row
 }
 
 // Two sources side by side: the second's numbers rise by the first's count. No rows if there are more than 64 together.
+// As it is: making a source never refuses, by the project's rule, and a table without rows is one that admission refuses.
 #[derive(Drop)]
 pub struct Joined<A, B> {
     pub first: A,

@@ -1,10 +1,9 @@
 -- The rows that narrowing by the rule of barren rows strikes are the inhabited ones. Assumes nothing.
-use Rattle.std.proofs.Common.{◌≡◌, ℕ, ◌+◌, ◌*◌, ◌<◌, ◌≤◌, Bool, true, false, cond, not, ◌&&◌, ◌||◌, eqb, ltb, List, length, replicate, Some, None, Decides, Option, sym, refl, ap, ◌∙◌, ⊎_elim, arith}
-use lib.ListN.{length-replicate}
+use Rattle.std.proofs.Common.{◌≡◌, ℕ, ◌+◌, ◌*◌, ◌<◌, ◌≤◌, Bool, true, false, cond, not, ◌&&◌, ◌||◌, eqb, ltb, List, length, Some, None, Decides, Option, sym, refl, ap, ◌∙◌, ⊎_elim, arith, ◌/◌}
 use Rattle.std.specs.List.{slice_get}
 use Rattle.std.proofs.lemmas.Bool.{cases_lt, cases_eq, both_ways, or_cases, or_parts, and_parts, and_from, and_cases, cases_Bool, lt-ltb, le-ltb, ltb-true, eqb-true, eqb-false, eq-eqb, ne_eqb, not-true, not-false, not_from_false}
 use Rattle.std.proofs.lemmas.Bool.Decides.{nat_tests}
-use Rattle.sets.specs.Sets.{bit, member, word}
+use Rattle.sets.specs.Sets.{bit, member, word, top}
 use Rattle.sets.proofs.Lowest.{bit_zero}
 use Rattle.sets.proofs.Wider.{some_bit}
 use Rattle.narrowing.specs.Narrowing.{Stands, Narrowed}
@@ -16,7 +15,7 @@ use Rattle.forms.specs.declared.Row.TheVariants.{Void, Nothing, Channel, Element
 use Rattle.forms.specs.Schema.{Inhabited}
 use Rattle.forms.specs.Schema.Inhabited.{of_void, of_channel, of_element, of_left, of_right}
 use Rattle.relation.specs.Barren.{lacks, barren_at, barren, barren_lawful}
-use Rattle.relation.proofs.Reaching.{nth_below, zeros_none}
+use Rattle.relation.proofs.Reaching.{nth_below}
 
 -- a label set with a label is not empty
 labelled : (x l : ℕ) → belongs x l ≡ true → eqb l 0 ≡ true → ⊥
@@ -72,69 +71,67 @@ module _ (rows : List Row) where
             of_element x e m (there i hi) (there n hn)
         go (Some (Union l r)) e off = ⊎_elim (λ h. of_left e (there l h)) (λ h. of_right e (there r h)) (and_cases (lacks (length rows) S l) (lacks (length rows) S r) off)
 
-    pub inhabited_all : (f rest : ℕ → Bool) → Narrowed (barren rows) start f → ((j : ℕ) → rest j ≡ (ltb j (length rows) && not (f j))) → (p : ℕ) → Decides (rest p) (Inhabited rows p)
+    pub inhabited_all : (f rest : ℕ → Bool) → Narrowed (barren rows) start f → ((j : ℕ) → rest j ≡ (start j && not (f j))) → (p : ℕ) → Decides (rest p) (Inhabited rows p)
     inhabited_all f rest narrowed is p = (
-      λ e. let (a, b) = and_parts (ltb p (length rows)) (not (f p)) (sym (is p) ∙ e) in
-          struck (barren rows) start (length rows) (λ x h. ltb-true x (length rows) (sym (all x) ∙ h)) (barren_lawful rows) f narrowed (Inhabited rows) reason p (all p ∙ a) (not-true (f p) b),
-      λ h. is p ∙ and_from (ltb p (length rows)) (not (f p)) (lt-ltb p (length rows) (inhabited_below p h))
+      λ e. let (a, b) = and_parts (start p) (not (f p)) (sym (is p) ∙ e) in
+          struck (barren rows) start (length rows) (λ x h. ltb-true x (length rows) (sym (all x) ∙ h)) (barren_lawful rows) f narrowed (Inhabited rows) reason p a (not-true (f p) b),
+      λ h. is p ∙ and_from (start p) (not (f p)) (all p ∙ lt-ltb p (length rows) (inhabited_below p h))
           (⊎_elim (λ e. absurd (never_inhabited f narrowed.stands p h e)) (not_from_false (f p)) (cases_Bool (f p))),
     )
 
--- the first rows, one by one
-pub record Firsts (set : List ℕ) (i : ℕ) : Type 0 where
-  pub room : word * length set ≡ max_rows
-  pub is : (j : ℕ) → member set j ≡ ltb j i
-
-one_more : (j i : ℕ) → (eqb j i || ltb j i) ≡ ltb j (i + 1)
-one_more j i = grind (arith, nat_tests)
-
-pub firsts_none : (n : ℕ) → word * n ≡ max_rows → Firsts (replicate n 0) 0
-firsts_none n e = record { room = omega (arith, length-replicate {A = ℕ} n 0); is = λ j. zeros_none n j ∙ sym (le-ltb j 0 (omega arith)) }
-
--- the rows of a set that are taken from the first ones
-abbrev pub Rest : ℕ → List ℕ → List ℕ → ℕ → Type 0
-Rest n set rest i = (j : ℕ) → member rest j ≡ (ltb j n && not (ltb j i && member set j))
-
-pub rest_none : (n : ℕ) (set rest : List ℕ) → ((j : ℕ) → member rest j ≡ ltb j n) → Rest n set rest 0
-rest_none n set rest is j = is j ∙ (let h = le-ltb j 0 (omega arith) in rw h (and_true (ltb j n)))
-  where
-    and_true : (b : Bool) → b ≡ (b && true)
-    and_true true = refl
-    and_true false = refl
-
--- no row between is in the set
-pub rest_skip : (n : ℕ) (set rest : List ℕ) (i k : ℕ) → i ≤ k → ((j : ℕ) → i ≤ j → j < k → member set j ≡ false) → Rest n set rest i → Rest n set rest k
-rest_skip n set rest i k up none r j = r j ∙ ap (λ b. ltb j n && not b) (go (member set j) (none j))
-  where
-    go : (b : Bool) → (i ≤ j → j < k → b ≡ false) → (ltb j i && b) ≡ (ltb j k && b)
-    go true off = ap (λ x. x && true) (⊎_elim
-        (λ low. lt-ltb j i low ∙ sym (lt-ltb j k (omega arith)))
-        (λ high. ⊎_elim (λ less. absurd (both_ways true (off high less) refl)) (λ more. le-ltb j i high ∙ sym (le-ltb j k more)) (cases_lt j k))
-        (cases_lt j i))
-    go false off = and_false (ltb j i) ∙ sym (and_false (ltb j k))
-      where
-        and_false : (b : Bool) → (b && false) ≡ false
-        and_false true = refl
-        and_false false = refl
-
-pub rest_more : (n : ℕ) (set rest new : List ℕ) (i : ℕ) → Rest n set rest i → member set i ≡ true → ((j : ℕ) → member new j ≡ cond (eqb j i) false (member rest j)) → Rest n set new (i + 1)
-rest_more n set rest new i r e removed j = removed j ∙ ⊎_elim
-    (λ same.
-    let here : (ltb j (i + 1) && member set j) ≡ true = and_from (ltb j (i + 1)) (member set j) (lt-ltb j (i + 1) (omega arith)) (ap (member set) same ∙ e) in
-    ap (λ b. cond b false (member rest j)) (eq-eqb j i same) ∙ sym (ap (λ b. ltb j n && not b) here ∙ and_false (ltb j n)))
-    (λ ne.
-    ap (λ b. cond b false (member rest j)) (ne_eqb j i ne) ∙ r j ∙ ap (λ b. ltb j n && not (b && member set j)) (below j i ne))
-    (cases_eq j i)
-  where
-    and_false : (b : Bool) → (b && false) ≡ false
-    and_false true = refl
-    and_false false = refl
-
-    below : (j i : ℕ) → (j ≡ i → ⊥) → ltb j i ≡ ltb j (i + 1)
-    below j i ne = grind (arith, nat_tests)
-
-pub rest_all : (n : ℕ) (set rest : List ℕ) (i : ℕ) → n ≤ i → Rest n set rest i → (j : ℕ) → member rest j ≡ (ltb j n && not (member set j))
-rest_all n set rest i all r j = r j ∙ ⊎_elim
-    (λ low. ap (λ b. ltb j n && not (b && member set j)) (lt-ltb j i (omega arith)))
-    (λ high. ap (λ b. b && not (ltb j i && member set j)) (le-ltb j n high) ∙ sym (ap (λ b. b && not (member set j)) (le-ltb j n high)))
+-- the set of the first n numbers, where they are numbers of rows
+pub first_rows : (start : ℕ → Bool) (n : ℕ) → n ≤ max_rows → ((j : ℕ) → Decides (start j) ((j < n) × (j < word * (max_rows / word)) × (j < top))) → (j : ℕ) → start j ≡ ltb j n
+first_rows start n few is j = ⊎_elim
+    (λ low. (is j).1 (low, omega arith, omega arith) ∙ sym (lt-ltb j n low))
+    (λ high. ⊎_elim (λ on. let (low, _, _) = (is j).0 on in absurd (omega arith)) (λ off. off ∙ sym (le-ltb j n high)) (cases_Bool (start j)))
     (cases_lt j n)
+
+-- the members of one set are taken from another, up to i
+abbrev pub Rest : (ℕ → Bool) → List ℕ → List ℕ → ℕ → Type 0
+Rest old set rest i = (j : ℕ) → member rest j ≡ (old j && not (ltb j i && member set j))
+
+and_false : (b : Bool) → (b && false) ≡ false
+and_false true = refl
+and_false false = refl
+
+module _ (old : ℕ → Bool) (set : List ℕ) where
+  pub rest_none : (rest : List ℕ) → ((j : ℕ) → member rest j ≡ old j) → Rest old set rest 0
+  rest_none rest is j = is j ∙ (let h = le-ltb j 0 (omega arith) in rw h (and_true (old j)))
+    where
+      and_true : (b : Bool) → b ≡ (b && true)
+      and_true true = refl
+      and_true false = refl
+
+  -- none between is in the set
+  pub rest_skip : (rest : List ℕ) (i k : ℕ) → i ≤ k → ((j : ℕ) → i ≤ j → j < k → member set j ≡ false) → Rest old set rest i → Rest old set rest k
+  rest_skip rest i k up none r j = r j ∙ ap (λ b. old j && not b) (go (member set j) (none j))
+    where
+      go : (b : Bool) → (i ≤ j → j < k → b ≡ false) → (ltb j i && b) ≡ (ltb j k && b)
+      go true off = ap (λ x. x && true) (⊎_elim
+          (λ low. lt-ltb j i low ∙ sym (lt-ltb j k (omega arith)))
+          (λ high. ⊎_elim (λ less. absurd (both_ways true (off high less) refl)) (λ more. le-ltb j i high ∙ sym (le-ltb j k more)) (cases_lt j k))
+          (cases_lt j i))
+      go false off = and_false (ltb j i) ∙ sym (and_false (ltb j k))
+
+  pub rest_more : (rest new : List ℕ) (i : ℕ) → Rest old set rest i → member set i ≡ true → ((j : ℕ) → member new j ≡ cond (eqb j i) false (member rest j)) → Rest old set new (i + 1)
+  rest_more rest new i r e removed j = removed j ∙ ⊎_elim
+      (λ same.
+      let here : (ltb j (i + 1) && member set j) ≡ true = and_from (ltb j (i + 1)) (member set j) (lt-ltb j (i + 1) (omega arith)) (ap (member set) same ∙ e) in
+      ap (λ b. cond b false (member rest j)) (eq-eqb j i same) ∙ sym (ap (λ b. old j && not b) here ∙ and_false (old j)))
+      (λ ne.
+      ap (λ b. cond b false (member rest j)) (ne_eqb j i ne) ∙ r j ∙ ap (λ b. old j && not (b && member set j)) (below j i ne))
+      (cases_eq j i)
+    where
+      below : (j i : ℕ) → (j ≡ i → ⊥) → ltb j i ≡ ltb j (i + 1)
+      below j i ne = grind (arith, nat_tests)
+
+  -- none from i on is in the set
+  pub rest_all : (rest : List ℕ) (i : ℕ) → ((j : ℕ) → i ≤ j → member set j ≡ false) → Rest old set rest i → (j : ℕ) → member rest j ≡ (old j && not (member set j))
+  rest_all rest i none r j = r j ∙ ⊎_elim
+      (λ low. ap (λ b. old j && not (b && member set j)) (lt-ltb j i low))
+      (λ high. ap (λ b. old j && not b) (and_none (ltb j i) (member set j) (none j high)))
+      (cases_lt j i)
+    where
+      and_none : (a b : Bool) → b ≡ false → (a && b) ≡ b
+      and_none a true e = absurd (both_ways true e refl)
+      and_none a false e = and_false a

@@ -1,12 +1,11 @@
 -- The sets of rows that are reached when nothing grows any more are what the rows offer. Assumes nothing.
-use Rattle.std.proofs.Common.{◌≡◌, ℕ, ◌+◌, ◌-◌, ◌*◌, ◌/◌, ◌%◌, ◌<◌, ◌≤◌, Bool, true, false, ◌||◌, eqb, List, length, replicate, Some, Decides, sym, ap, ◌∙◌, subst, inl, inr, ⊎_elim, arith}
-use lib.ListN.{length-replicate, get_or-replicate}
+use Rattle.std.proofs.Common.{◌≡◌, ℕ, ◌+◌, ◌-◌, ◌*◌, ◌<◌, ◌≤◌, Bool, true, false, ◌||◌, eqb, List, length, replicate, Some, Decides, sym, ◌∙◌, subst, inl, inr, ⊎_elim, arith}
+use lib.ListN.{length-replicate}
 use Rattle.std.specs.List.{slice_get}
 use Rattle.std.proofs.lemmas.Option.{slice_get_past}
 use Rattle.std.proofs.lemmas.Bool.{cases_lt, both_ways, or_cases, or_left, or_right, eqb-true, eq-eqb}
-use Rattle.sets.specs.Sets.{bit, member, tally, word, top}
-use Rattle.sets.proofs.Lowest.{bit_zero}
-use Rattle.sets.proofs.Membership.{member_at, member_top, member_past}
+use Rattle.sets.specs.Sets.{member, tally, word, top}
+use Rattle.sets.proofs.Membership.{zeros_none}
 use Rattle.sets.proofs.Tallies.{tally_le}
 use Rattle.forms.specs.Limits.{max_rows}
 use Rattle.forms.specs.declared.Row.{Row}
@@ -24,17 +23,6 @@ nth_below rows p row e = ⊎_elim (λ h. h) (λ past. let none = slice_get_past 
 
 less_left : (n a b : ℕ) → a < b → b ≤ n → n - b < n - a
 less_left n a b h k = omega arith
-
--- words of zeros hold nothing
-pub zeros_none : (n k : ℕ) → member (replicate n 0) k ≡ false
-zeros_none n k = ⊎_elim (λ inside. go inside) (λ past. member_past (replicate n 0) k (omega (arith, length-replicate {A = ℕ} n 0))) (cases_lt k (word * n))
-  where
-    go : k < word * n → member (replicate n 0) k ≡ false
-    go inside = ⊎_elim
-        (λ low. member_at (replicate n 0) (k / word) (k % word) k (omega arith) (omega arith) low
-        ∙ ap (λ w. bit w (k % word)) (get_or-replicate n (k / word) 0 0 (omega arith)) ∙ bit_zero (k % word))
-        (λ high. member_top (replicate n 0) k high)
-        (cases_lt k top)
 
 module _ (rows : List Row) where
   -- the rows before i that are no unions are in their own sets

@@ -39,10 +39,10 @@ abbrev pub Settled : List Row → List ℕ → ℕ → Type 0
 Settled rows cells p =
     (row : Row) → slice_get rows p ≡ Some row → (o : ℕ) → o < max_rows → (cell cells (side_left row p) o ≡ true) ⊎ (cell cells (side_right row p) o ≡ true) → cell cells p o ≡ true
 
--- every set has what it had, and if one grew, there are more members
+-- every set has what it had, and no more unless one grew: then there are more members
 pub record Grown (old new : List ℕ) (grown : Bool) : Type 0 where
   pub more : (k : ℕ) → member old k ≡ true → member new k ≡ true
-  pub same : grown ≡ false → new ≡ old
+  pub same : grown ≡ false → (k : ℕ) → member new k ≡ member old k
   pub grows : grown ≡ true → tally (member old) (word * length old) < tally (member new) (word * length old)
 
 -- the set of row k is added to that of row p

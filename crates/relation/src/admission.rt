@@ -1,6 +1,7 @@
 // Whether a table is admitted, and which fault is found if it is not.
 ghost use Rattle.std.specs.Prelude.{◌≡◌, ℕ, ◌<◌, ◌≤◌, true, ◌&&◌, length, Decides, MatchOption};
 ghost use Rattle.sets.specs.Sets.{member};
+ghost use Rattle.forms.specs.Buffers.{rows_of};
 ghost use Rattle.forms.specs.Limits.{max_rows};
 ghost use Rattle.forms.specs.Places.{Nowhere, Lowest};
 ghost use Rattle.forms.specs.Rows.{NumbersBelow, belongs};
@@ -10,15 +11,15 @@ ghost use Rattle.relation.specs.Faults.{label_set_of};
 ghost use Rattle.relation.specs.Judged.{Analyzed, Judged};
 
 use super::AdmissionFault;
-use super::analysis::{Analysis, analyze_rows};
+use super::analysis::{Analysis, analyze_table};
 use forms::buffer::RowBuffer;
 use forms::{FormSource, Row};
 
 // The lowest row with a number outside the table.
-fn outside(rows: &[Row]) -> Option<u8>
-    requires { length rows.now ≤ max_rows }
-    ensures { MatchOption result (Nowhere (Outside rows.now)) (Lowest (Outside rows.now)) }
+fn outside(table: &RowBuffer) -> Option<u8>
+    ensures { MatchOption result (Nowhere (Outside (rows_of table.now))) (Lowest (Outside (rows_of table.now))) }
 {
+    let rows = table.rows();
     let p = rows.iter().position(|row| !row.numbers_below(rows.len()))?;
     Some(p as u8)
 }
@@ -51,30 +52,28 @@ fn counts(analysis: &Analysis, p: usize, o: usize) -> bool
 }
 
 // The labels of row o, if it is an inhabited element row that row p offers.
-fn given_labels(rows: &[Row], analysis: &Analysis, p: usize, o: usize) -> u64
-    requires few { length rows.now ≤ max_rows }
-    requires first { p < length rows.now }
-    requires second { o < length rows.now }
-    requires analyzed { Analyzed rows.now analysis.now }
-    ensures { (x : ℕ) → Decides (belongs x result) (Gives rows.now p o x) }
+fn given_labels(table: &RowBuffer, analysis: &Analysis, p: usize, o: usize) -> u64
+    requires first { p < length (rows_of table.now) }
+    requires second { o < length (rows_of table.now) }
+    requires analyzed { Analyzed (rows_of table.now) analysis.now }
+    ensures { (x : ℕ) → Decides (belongs x result) (Gives (rows_of table.now) p o x) }
 {
     if counts(analysis, p, o) {
-        element_labels(rows[o])
+        element_labels(table.rows()[o])
     } else {
         0
     }
 }
 
 // Whether row p offers two inhabited element rows with a common label.
-fn shares(rows: &[Row], analysis: &Analysis, p: usize) -> bool
-    requires few { length rows.now ≤ max_rows }
-    requires within { p < length rows.now }
-    requires analyzed { Analyzed rows.now analysis.now }
-    ensures { Decides result (SharesLabel rows.now p) }
+fn shares(table: &RowBuffer, analysis: &Analysis, p: usize) -> bool
+    requires within { p < length (rows_of table.now) }
+    requires analyzed { Analyzed (rows_of table.now) analysis.now }
+    ensures { Decides result (SharesLabel (rows_of table.now) p) }
 {
     let mut seen = 0;
-    for o in 0..rows.len() {
-        let labels = given_labels(rows, analysis, p, o);
+    for o in 0..table.count() {
+        let labels = given_labels(table, analysis, p, o);
         if meets(seen, labels) {
             return true;
         }
@@ -84,28 +83,26 @@ fn shares(rows: &[Row], analysis: &Analysis, p: usize) -> bool
 }
 
 // The lowest such row.
-fn sharing(rows: &[Row], analysis: &Analysis) -> Option<u8>
-    requires few { length rows.now ≤ max_rows }
-    requires analyzed { Analyzed rows.now analysis.now }
-    ensures { MatchOption result (Nowhere (SharesLabel rows.now)) (Lowest (SharesLabel rows.now)) }
+fn sharing(table: &RowBuffer, analysis: &Analysis) -> Option<u8>
+    requires { Analyzed (rows_of table.now) analysis.now }
+    ensures { MatchOption result (Nowhere (SharesLabel (rows_of table.now))) (Lowest (SharesLabel (rows_of table.now))) }
 {
-    let p = (0..rows.len()).find(|p| shares(rows, analysis, *p))?;
+    let p = (0..table.count()).find(|p| shares(table, analysis, *p))?;
     Some(p as u8)
 }
 
-// The same as `admit`, of the rows of a slice.
-fn admit_rows(rows: &[Row]) -> Result<Analysis, AdmissionFault>
-    requires { length rows.now ≤ max_rows }
-    ensures { Judged rows.now result }
+// The same as `admit`, of a table.
+fn admit_table(table: &RowBuffer) -> Result<Analysis, AdmissionFault>
+    ensures { Judged (rows_of table.now) result }
 {
-    if rows.len() == 0 {
+    if table.count() == 0 {
         return Err(AdmissionFault::NoRows);
     }
-    if let Some(row) = outside(rows) {
+    if let Some(row) = outside(table) {
         return Err(AdmissionFault::NumberOutside { row });
     }
-    let analysis = analyze_rows(rows);
-    match sharing(rows, &analysis) {
+    let analysis = analyze_table(table);
+    match sharing(table, &analysis) {
         Some(row) => Err(AdmissionFault::LabelTwice { row }),
         None => Ok(analysis),
     }
@@ -116,6 +113,5 @@ pub fn admit<S: FormSource>(source: &S) -> Result<Analysis, AdmissionFault>
     ensures judged { Judged (S.FormSource.rows source.now) result }
     ensures one { AdmittedOrOneFault (S.FormSource.rows source.now) }
 {
-    let buffer = RowBuffer::of(source);
-    admit_rows(buffer.rows())
+    admit_table(&RowBuffer::of(source))
 }

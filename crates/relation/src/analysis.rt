@@ -1,14 +1,15 @@
 // What is worked out from the rows of a table.
 ghost use Rattle.std.specs.Prelude.{◌≡◌, ◌≤◌, ◌&&◌, length, nat_lt};
 ghost use Rattle.sets.specs.Sets.{member};
+ghost use Rattle.forms.specs.Buffers.{rows_of};
 ghost use Rattle.forms.specs.Limits.{max_rows};
 ghost use Rattle.relation.specs.Cells.{cell};
 ghost use Rattle.relation.specs.Judged.{Analyzed};
 
 use super::inhabiting::inhabited_rows;
 use super::offering::{CELL_WORDS, ROW_WORDS, has, offered_rows};
+use forms::FormSource;
 use forms::buffer::RowBuffer;
-use forms::{FormSource, Row};
 use sets;
 
 // Which rows each row offers, and which rows are inhabited.
@@ -41,14 +42,13 @@ impl Analysis {
     }
 }
 
-// What is worked out from the rows of a slice.
-pub(crate) fn analyze_rows(rows: &[Row]) -> Analysis
-    requires { length rows.now ≤ max_rows }
-    ensures { Analyzed rows.now result }
+// What is worked out from the rows of a table.
+pub(crate) fn analyze_table(table: &RowBuffer) -> Analysis
+    ensures { Analyzed (rows_of table.now) result }
 {
     Analysis {
-        offered: offered_rows(rows),
-        inhabited: inhabited_rows(rows),
+        offered: offered_rows(table),
+        inhabited: inhabited_rows(table),
     }
 }
 
@@ -56,6 +56,5 @@ pub(crate) fn analyze_rows(rows: &[Row]) -> Analysis
 pub fn analyze<S: FormSource>(source: &S) -> Analysis
     ensures { Analyzed (S.FormSource.rows source.now) result }
 {
-    let buffer = RowBuffer::of(source);
-    analyze_rows(buffer.rows())
+    analyze_table(&RowBuffer::of(source))
 }

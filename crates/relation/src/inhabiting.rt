@@ -1,12 +1,13 @@
 // Which rows some document fits: all but the largest set of rows that lean on each other for one.
 ghost use Rattle.std.specs.Prelude.{◌≡◌, ℕ, ◌≤◌, not, ◌&&◌, length, Decides, nat_lt};
 ghost use Rattle.sets.specs.Sets.{member};
-ghost use Rattle.forms.specs.Limits.{max_rows};
+ghost use Rattle.forms.specs.Buffers.{rows_of};
 ghost use Rattle.forms.specs.Schema.{Inhabited};
 ghost use Rattle.relation.specs.Barren.{lacks, barren_row, barren, barren_lawful};
 
 use super::offering::ROW_WORDS;
 use forms::Row;
+use forms::buffer::RowBuffer;
 use narrowing;
 use narrowing::Rule;
 use sets;
@@ -55,36 +56,23 @@ impl<'a> Rule for Barren<'a> {
     }
 }
 
-// The first `count` rows.
-fn first_rows(count: usize) -> [u64; ROW_WORDS]
-    requires { count ≤ max_rows }
-    ensures { (j : ℕ) → member result j ≡ nat_lt j count }
+// Takes the members of a set away from another.
+fn take_away(rest: &mut [u64], set: &[u64])
+    ensures { (j : ℕ) → member rest.new j ≡ (member rest.old j && not (member set.now j)) }
 {
-    let mut set = [0; ROW_WORDS];
-    for p in 0..count {
-        sets::put(&mut set, p);
-    }
-    set
-}
-
-// Those of the first `count` rows that are not in a set.
-fn others(count: usize, set: &[u64]) -> [u64; ROW_WORDS]
-    requires { count ≤ max_rows }
-    ensures { (j : ℕ) → member result j ≡ (nat_lt j count && not (member set.now j)) }
-{
-    let mut rest = first_rows(count);
     for p in Members::of(set) {
-        sets::remove(&mut rest, p);
+        sets::remove(rest, p);
     }
-    rest
 }
 
 // The rows that some document fits.
-pub(crate) fn inhabited_rows(rows: &[Row]) -> [u64; ROW_WORDS]
-    requires { length rows.now ≤ max_rows }
-    ensures { (p : ℕ) → Decides (member result p) (Inhabited rows.now p) }
+pub(crate) fn inhabited_rows(table: &RowBuffer) -> [u64; ROW_WORDS]
+    ensures { (p : ℕ) → Decides (member result p) (Inhabited (rows_of table.now) p) }
 {
-    let mut set = first_rows(rows.len());
-    narrowing::narrow(&Barren { rows }, &mut set);
-    others(rows.len(), &set)
+    let rows = table.rows();
+    let mut all = sets::first(rows.len());
+    let mut barren = all;
+    narrowing::narrow(&Barren { rows }, &mut barren);
+    take_away(&mut all, &barren);
+    all
 }

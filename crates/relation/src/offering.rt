@@ -1,10 +1,12 @@
 // Which rows each row offers: a set of rows for each row, to which the sets of its sides are added until nothing changes.
 ghost use Rattle.std.specs.Prelude.{◌≡◌, ℕ, ◌*◌, ◌<◌, ◌≤◌, true, false, length, Decides, bit_or, nat_lt, ◌&&◌};
 ghost use Rattle.sets.specs.Sets.{word, bit};
+ghost use Rattle.forms.specs.Buffers.{rows_of};
 ghost use Rattle.forms.specs.Limits.{max_rows};
 ghost use Rattle.forms.specs.Schema.{Offers, NoUnion};
 ghost use Rattle.relation.specs.Cells.{cell, side_left, side_right, Sound, HoldsLeaves, RowAdded, Spread};
 
+use forms::buffer::RowBuffer;
 use forms::{MAX_ROWS, Row};
 use sets;
 
@@ -12,6 +14,7 @@ use sets;
 pub const ROW_WORDS: usize = MAX_ROWS / sets::WORD;
 
 // And a set of rows for each row has so many.
+// As it is: the marks of a fit are one slice of words by the format, and so are these, so that one definition says of both which bit is which.
 pub const CELL_WORDS: usize = MAX_ROWS * ROW_WORDS;
 
 // Whether o belongs to the set of row p.
@@ -29,26 +32,17 @@ fn is_leaf(row: Row) -> bool
 }
 
 // Each row that is no union offers itself.
-fn themselves(rows: &[Row]) -> [u64; CELL_WORDS]
-    requires { length rows.now ≤ max_rows }
-    ensures sound { Sound rows.now result }
-    ensures leaves { HoldsLeaves rows.now result }
+fn themselves(table: &RowBuffer) -> [u64; CELL_WORDS]
+    ensures sound { Sound (rows_of table.now) result }
+    ensures leaves { HoldsLeaves (rows_of table.now) result }
 {
     let mut cells = [0; CELL_WORDS];
-    for (p, row) in rows.iter().enumerate() {
+    for (p, row) in table.rows().iter().enumerate() {
         if is_leaf(*row) {
             sets::put(&mut cells, p * MAX_ROWS + p);
         }
     }
     cells
-}
-
-// Whether a word has a bit that the own word has not.
-fn gains(own: u64, other: u64) -> bool
-    ensures gained { result ≡ true → (x : ℕ) × (x < word) × (bit own x ≡ false) × (bit other x ≡ true) }
-    ensures same { result ≡ false → own ≡ bit_or own other }
-{
-    own != own | other
 }
 
 // Adds to the set of row p that of row k, and says whether it grew. A number past the table has no set.
@@ -57,19 +51,12 @@ fn add_row(cells: &mut [u64], p: usize, k: usize) -> bool
     requires within { p < max_rows }
     ensures { RowAdded p k cells.old cells.new result }
 {
-    let mut grown = false;
-    if k < MAX_ROWS {
-        // As it is: both rows lie in one array, so neither can be a slice of its own while the other is written.
-        for i in 0..ROW_WORDS {
-            let own = cells[p * ROW_WORDS + i];
-            let other = cells[k * ROW_WORDS + i];
-            if gains(own, other) {
-                cells[p * ROW_WORDS + i] = own | other;
-                grown = true;
-            }
-        }
+    if k >= MAX_ROWS {
+        return false;
     }
-    grown
+    let mut other = [0; ROW_WORDS];
+    other.copy_from_slice(&cells[k * ROW_WORDS..(k + 1) * ROW_WORDS]);
+    sets::join(&mut cells[p * ROW_WORDS..(p + 1) * ROW_WORDS], &other) > 0
 }
 
 // The sides of a union; of another row p itself.
@@ -83,13 +70,12 @@ fn sides(row: Row, p: usize) -> (usize, usize)
 }
 
 // Adds to each row's set those of its sides, and says whether one grew.
-fn spread(rows: &[Row], cells: &mut [u64]) -> bool
-    requires few { length rows.now ≤ max_rows }
-    requires room { word * length cells.old ≡ max_rows * max_rows }
-    ensures { Spread rows.now cells.old cells.new result }
+fn spread(table: &RowBuffer, cells: &mut [u64]) -> bool
+    requires { word * length cells.old ≡ max_rows * max_rows }
+    ensures { Spread (rows_of table.now) cells.old cells.new result }
 {
     let mut grown = false;
-    for (p, row) in rows.iter().enumerate() {
+    for (p, row) in table.rows().iter().enumerate() {
         let (left, right) = sides(*row, p);
         let first = add_row(cells, p, left);
         let second = add_row(cells, p, right);
@@ -99,11 +85,10 @@ fn spread(rows: &[Row], cells: &mut [u64]) -> bool
 }
 
 // For each row the rows that it offers.
-pub(crate) fn offered_rows(rows: &[Row]) -> [u64; CELL_WORDS]
-    requires { length rows.now ≤ max_rows }
-    ensures { (p o : ℕ) → p < max_rows → o < max_rows → Decides (cell result p o) (Offers rows.now p o) }
+pub(crate) fn offered_rows(table: &RowBuffer) -> [u64; CELL_WORDS]
+    ensures { (p o : ℕ) → p < max_rows → o < max_rows → Decides (cell result p o) (Offers (rows_of table.now) p o) }
 {
-    let mut cells = themselves(rows);
-    while spread(rows, &mut cells) {}
+    let mut cells = themselves(table);
+    while spread(table, &mut cells) {}
     cells
 }

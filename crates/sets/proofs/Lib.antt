@@ -2,8 +2,10 @@ pub mod Words
 pub mod Tallies
 pub mod Lowest
 pub mod Membership
+pub mod Firsts
 pub mod Nexts
 pub mod Counts
 pub mod Wider
+pub mod Parts
 pub mod Going
 pub mod Common

@@ -52,6 +52,17 @@ pub fn remove(words: &mut [u64], k: usize)
     }
 }
 
+// The numbers below n, as far as there is room for them.
+pub fn first<const W: usize>(n: usize) -> [u64; W]
+    ensures { (j : ℕ) → Decides (member result j) ((j < n) × (j < word * W) × (j < top)) }
+{
+    let mut words = [0; W];
+    for k in 0..n {
+        put(&mut words, k);
+    }
+    words
+}
+
 // The first word that has a member.
 fn filled(words: &[u64]) -> Option<usize>
     ensures { MatchOption result ((k : ℕ) → k < length words.now → slice_index words.now k ≡ 0) (λ i. (i < length words.now) × (slice_index words.now i ≢ 0) × ((k : ℕ) → k < i → slice_index words.now k ≡ 0)) }
@@ -111,6 +122,7 @@ pub fn join(words: &mut [u64], others: &[u64]) -> usize
 {
     let mut total = 0;
     let end = words.len().min(others.len()).min(MOST);
+    // As it is: tried with `iter_mut` and `zip`; what is written through them is not known behind the loop.
     for (i, other) in others[..end].iter().enumerate() {
         let all = words[i] | *other;
         total += bits(all ^ words[i]);

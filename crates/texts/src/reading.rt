@@ -39,6 +39,7 @@ impl RowText {
     }
 
     // The rows that a text spells, or none where checking refuses it.
+    // As it is: making a source never refuses, by the project's rule; `read` beside it says why a text spells no rows.
     pub fn new(text: &[u8]) -> RowText
         ensures { (o : Outcome (List Row)) → Judged text.now o → text_rows result ≡ spelled_by o }
     {

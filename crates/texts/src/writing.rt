@@ -1,6 +1,6 @@
 // Writing rows as text: first measured, then written.
 ghost use Rattle.std.specs.Prelude.{◌≡◌, ◌≤◌, length};
-ghost use Rattle.forms.specs.Limits.{max_rows};
+ghost use Rattle.forms.specs.Buffers.{rows_of};
 ghost use Rattle.forms.specs.Splices.{Wrote};
 ghost use Rattle.texts.specs.RowText.{spelled_row, spelled};
 ghost use Rattle.texts.specs.Writing.{WritingRowsIsOne, WrittenRowsAreRight};
@@ -13,6 +13,7 @@ use forms::bytes::digits;
 use forms::{FormSource, MAX_ROWS, Row};
 
 // The length of a row's line: its letter, three commas and byte 10, and its fields.
+// As it is: a text that is too long leaves the buffer as it was, so its length is known before a byte of it is written.
 fn line_length(row: Row) -> usize
     ensures value { result ≡ length (spelled_row row) }
     ensures few { result ≤ 27 }
@@ -30,12 +31,11 @@ fn line_length(row: Row) -> usize
 }
 
 // The length of the rows' text, if text can spell them.
-fn measure(rows: &[Row]) -> Result<usize, RowsFault>
-    requires { length rows.now ≤ max_rows }
-    ensures { TotalFound rows.now result }
+fn measure(table: &RowBuffer) -> Result<usize, RowsFault>
+    ensures { TotalFound (rows_of table.now) result }
 {
     let mut total = 0;
-    for (number, row) in rows.iter().enumerate() {
+    for (number, row) in table.rows().iter().enumerate() {
         if !row.numbers_below(MAX_ROWS) {
             return Err(RowsFault::NumberOver { row: number });
         }
@@ -62,10 +62,9 @@ pub fn write_rows<S: FormSource>(source: &S, buffer: &mut [u8]) -> Result<usize,
     ensures laws { (WritingRowsIsOne) × (WrittenRowsAreRight) }
 {
     let table = RowBuffer::of(source);
-    let rows = table.rows();
-    let length = measure(rows)?;
+    let length = measure(&table)?;
     if length > buffer.len() {
         return Err(RowsFault::NoRoom);
     }
-    Ok(write(rows, buffer))
+    Ok(write(table.rows(), buffer))
 }

@@ -1,5 +1,5 @@
 // How a row buffer is made, and that it is a source.
-ghost use Rattle.std.specs.Prelude.{◌≡◌, ◌<◌, true, [], length, nat_lt};
+ghost use Rattle.std.specs.Prelude.{◌≡◌, ◌<◌, ◌≤◌, true, [], length, nat_lt};
 ghost use Rattle.std.specs.List.{slice_get};
 ghost use Rattle.forms.specs.Limits.{max_rows};
 ghost use Rattle.forms.specs.Rows.{fits, few};
@@ -35,6 +35,7 @@ impl RowBuffer {
     }
 
     // The rows of a slice, or none if it has more than 64.
+    // As it is: making a source never refuses, by the project's rule, and a table without rows is one that admission refuses.
     pub fn new(rows: &[Row]) -> RowBuffer
         ensures { rows_of result ≡ few rows.now }
     {
@@ -63,7 +64,8 @@ impl RowBuffer {
 
     // The rows as a slice.
     pub fn rows(&self) -> &[Row]
-        ensures { result.now ≡ rows_of self.now }
+        ensures is { result.now ≡ rows_of self.now }
+        ensures few { length result.now ≤ max_rows }
     {
         &self.table[0..self.count]
     }

@@ -1,11 +1,13 @@
+use Rattle.forms.specs.Laws.{buffer_laws}
+use Rattle.forms.specs.Buffers.{rows_of}
 use Rattle.relation.proofs.Reaching.{reaching_more, reaching_less, reaching_all}
 use Rattle.relation.proofs.offering.offered_rows.Goals as goal
 
 pub loop-smaller : goal.loop-smaller
-loop-smaller c = reaching_less c.args.rows.now c.loop.cells c.spread.new.cells c.spread.result c.loop.invariant c.spread.auto.cells c.spread.ensures c.loop-test.true
+loop-smaller c = reaching_less (rows_of c.args.table.now) c.loop.cells c.spread.new.cells c.spread.result c.loop.invariant c.spread.auto.cells c.spread.ensures c.loop-test.true
 
 pub loop-preserved : goal.loop-preserved
-loop-preserved c = reaching_more c.args.rows.now c.loop.cells c.spread.new.cells c.spread.result c.loop.invariant c.spread.auto.cells c.spread.ensures
+loop-preserved c = reaching_more (rows_of c.args.table.now) c.loop.cells c.spread.new.cells c.spread.result c.loop.invariant c.spread.auto.cells c.spread.ensures
 
 pub returns : goal.returns
-returns c = reaching_all c.args.rows.now c.loop.cells c.spread.new.cells c.spread.result c.loop.invariant c.spread.auto.cells c.spread.ensures c.requires c.loop-test.false
+returns c = reaching_all (rows_of c.args.table.now) c.loop.cells c.spread.new.cells c.spread.result c.loop.invariant c.spread.auto.cells c.spread.ensures (buffer_laws c.args.table.now).few c.loop-test.false
