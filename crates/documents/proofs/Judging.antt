@@ -5,7 +5,7 @@ use Rattle.std.proofs.lemmas.Bool.Decides.{nat_tests}
 use Rattle.forms.specs.Documents.{Document}
 use Rattle.forms.specs.Documents.Document.{void, reference, element}
 use Rattle.forms.specs.Places.{NoneBelow}
-use Rattle.documents.specs.declared.scan.Phase.{Phase}
+use Rattle.documents.specs.declared.scan.Scan.{Scan}
 use Rattle.documents.specs.declared.faults.ReadFault.TheVariants.{Wrong, TooDeep}
 use Rattle.documents.specs.Limits.{max_levels}
 use Rattle.documents.specs.Grammar.{comma_before, spelled_document, Small, level, OpensTooMany}
@@ -74,61 +74,61 @@ opens_not : (n b m : ℕ) → shift n b ≡ m → m ≤ max_levels → b ≡ 91 
 opens_not n b m e few opens full = grind (arith, nat_tests)
 
 -- THE LOOP. After i bytes:
-pub record Scanned (bytes : List ℕ) (i n : ℕ) (p : Phase) (nodes : ℕ) : Type 0 where
-  pub state : scan (take i bytes) ≡ Some (n, p)
-  pub shallow : n ≤ max_levels
+pub record Scanned (bytes : List ℕ) (i : ℕ) (s : Scan) (nodes : ℕ) : Type 0 where
+  pub state : scan (take i bytes) ≡ Some s
+  pub shallow : s.level ≤ max_levels
   pub none : NoneBelow (OpensTooMany bytes) i
   pub count : nodes ≡ marked (take i bytes) + 1
 
-module _ (bytes : List ℕ) (i n : ℕ) (p : Phase) (nodes : ℕ) (scanned : Scanned bytes i n p nodes) where
+module _ (bytes : List ℕ) (i : ℕ) (s : Scan) (nodes : ℕ) (scanned : Scanned bytes i s nodes) where
   abbrev byte : ℕ
   byte = get_or bytes i 0
 
   module _ (within-bytes : i < length bytes) where
-    after : (s : State) → s ≡ step (Some (n, p)) byte → scan (take (i + 1) bytes) ≡ s
-    after s e = scan_more bytes i within-bytes ∙ ap (λ t. step t byte) scanned.state ∙ sym e
+    after : (u : State) → u ≡ step (Some s) byte → scan (take (i + 1) bytes) ≡ u
+    after u e = scan_more bytes i within-bytes ∙ ap (λ u. step u byte) scanned.state ∙ sym e
 
     alive : goes_on (scan (take i bytes)) ≡ true
     alive = rw scanned.state refl
 
     -- how the level moves
-    moved_to : (m : ℕ) (q : Phase) → Some (m, q) ≡ step (Some (n, p)) byte → shift n byte ≡ m
-    moved_to m q e = let moves = move_level (move n byte p) (ap goes_on (sym e)) in moves.0 ∙ ap depth (sym e)
+    moved_to : (t : Scan) → Some t ≡ step (Some s) byte → shift s.level byte ≡ t.level
+    moved_to t e = let moves = move_level (move s.level byte s.phase) (ap goes_on (sym e)) in moves.0 ∙ ap depth (sym e)
 
-    level_is : level (take i bytes) ≡ n
-    level_is = scan_tells_level (take i bytes) n p scanned.state
+    level_is : level (take i bytes) ≡ s.level
+    level_is = scan_tells_level (take i bytes) s.level s.phase scanned.state
 
-    pub found_stuck : None ≡ step (Some (n, p)) byte → JudgedAs bytes (Err (Wrong i))
+    pub found_stuck : None ≡ step (Some s) byte → JudgedAs bytes (Err (Wrong i))
     found_stuck e = (wrong_where_stuck bytes i within-bytes alive (ap goes_on (ap (λ k. scan (take k bytes)) (sym (add-one i)) ∙ after None e)), scanned.none)
 
-    pub found_deep : (m : ℕ) (q : Phase) → Some (m, q) ≡ step (Some (n, p)) byte → max_levels < m → JudgedAs bytes (Err (TooDeep i))
-    found_deep m q e over =
-        let to = moved_to m q e in
+    pub found_deep : (t : Scan) → Some t ≡ step (Some s) byte → max_levels < t.level → JudgedAs bytes (Err (TooDeep i))
+    found_deep t e over =
+        let to = moved_to t e in
         let few = scanned.shallow in
-        let opens : byte ≡ 91 = over_by_bracket n byte m to few over in
-        let full : n ≡ max_levels = over_by_one n byte m to few over in
-        (((within-bytes, opens, level_is ∙ full), scanned.none), (scan_tells_going_on (take (suc i) bytes)).0 (ap goes_on (ap (λ k. scan (take k bytes)) (sym (add-one i)) ∙ after (Some (m, q)) e)))
+        let opens : byte ≡ 91 = over_by_bracket s.level byte t.level to few over in
+        let full : s.level ≡ max_levels = over_by_one s.level byte t.level to few over in
+        (((within-bytes, opens, level_is ∙ full), scanned.none), (scan_tells_going_on (take (suc i) bytes)).0 (ap goes_on (ap (λ k. scan (take k bytes)) (sym (add-one i)) ∙ after (Some t) e)))
 
-    pub scanned_more : (m : ℕ) (q : Phase) (nodes' : ℕ) → Some (m, q) ≡ step (Some (n, p)) byte → m ≤ max_levels → nodes' ≡ nodes + cond (marks byte) 1 0 → Scanned bytes (i + 1) m q nodes'
-    scanned_more m q nodes' e few c = record {
-      state = after (Some (m, q)) e;
+    pub scanned_more : (t : Scan) (nodes' : ℕ) → Some t ≡ step (Some s) byte → t.level ≤ max_levels → nodes' ≡ nodes + cond (marks byte) 1 0 → Scanned bytes (i + 1) t nodes'
+    scanned_more t nodes' e few c = record {
+      state = after (Some t) e;
       shallow = few;
-      none = below_more (λ j. OpensTooMany bytes j → ⊥) i scanned.none (λ (h, opens, full). opens_not n byte m (moved_to m q e) few opens (sym level_is ∙ full));
+      none = below_more (λ j. OpensTooMany bytes j → ⊥) i scanned.none (λ (h, opens, full). opens_not s.level byte t.level (moved_to t e) few opens (sym level_is ∙ full));
       count = let g = marked_more bytes i within-bytes in let h = scanned.count in omega arith;
     }
 
   -- at the end
   module _ (all : i ≡ length bytes) where
-    scanned_all : scan bytes ≡ Some (n, p)
+    scanned_all : scan bytes ≡ Some s
     scanned_all = ap scan (sym (take_all i bytes (omega arith))) ∙ scanned.state
 
-    pub found_whole : is_whole (Some (n, p)) ≡ true → JudgedAs bytes (Ok nodes)
+    pub found_whole : is_whole (Some s) ≡ true → JudgedAs bytes (Ok nodes)
     found_whole e =
         let (d, t) = (scan_tells_texts bytes).0 (ap is_whole scanned_all ∙ e) in
         let (h, spelled) = (texts_are_spelled bytes d).0 t in
         (d, t, (λ k o. scanned.none k (omega (arith, o.0)) o), omega (arith, scanned.count, ap marked (take_all i bytes (omega arith)), ap marked spelled, marked_size d h, length_nodes d 1))
 
-    pub found_short : is_whole (Some (n, p)) ≡ false → JudgedAs bytes (Err (Wrong (length bytes)))
+    pub found_short : is_whole (Some s) ≡ false → JudgedAs bytes (Err (Wrong (length bytes)))
     found_short e = (wrong_at_the_end bytes (ap goes_on scanned_all) (ap is_whole scanned_all ∙ e), subst (NoneBelow (OpensTooMany bytes)) all scanned.none)
 
   -- the count stays small

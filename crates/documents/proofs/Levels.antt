@@ -7,7 +7,7 @@ use Rattle.std.proofs.lemmas.Bool.Decides.{nat_tests}
 use Rattle.forms.specs.Documents.{Document}
 use Rattle.documents.specs.Grammar.{comma_before, spelled_document, Small, level, levels}
 use Rattle.forms.specs.Documents.Document.{void, reference, element}
-use Rattle.documents.specs.Scan.{State, step, run, scan, goes_on, ScanTellsLevel}
+use Rattle.documents.specs.Scan.{at, State, step, run, scan, goes_on, ScanTellsLevel}
 use Rattle.documents.specs.declared.scan.Phase.{Phase}
 use Rattle.documents.specs.declared.scan.Phase.TheVariants.{MayBegin as may_begin}
 use Rattle.documents.specs.Nodes.{nodes_for}
@@ -32,7 +32,7 @@ after n [] = n
 after n (b ∷ w) = after (shift n b) w
 
 abbrev pub depth : State → ℕ
-depth (Some (n, p)) = n
+depth (Some s) = s.level
 depth None = 0
 
 abbrev opened : List ℕ → ℕ
@@ -56,23 +56,23 @@ move_level {n} {b} (on_row (d, l, g)) e = (grind (arith, nat_tests), grind (arit
 move_level on_list e = (refl, refl)
 
 alive_before : (s : State) (w : List ℕ) → goes_on (run s w) ≡ true → goes_on s ≡ true
-alive_before (Some (n, p)) w e = refl
+alive_before (Some s) w e = refl
 alive_before None w e = let z : goes_on None ≡ true = rw (run_stuck w) at e in never (cc)
 
 level_run : (w : List ℕ) (s : State) → goes_on (run s w) ≡ true → (after (depth s) w ≡ depth (run s w)) × (depth s + opened w ≡ depth (run s w) + shut w)
 level_run [] s e = (refl, refl)
 level_run (b ∷ w) None e = let z : goes_on None ≡ true = rw (run_stuck w) at e in never (cc)
-level_run (b ∷ w) (Some (n, p)) e =
-    let (h, g) = move_level (move n b p) (alive_before (step (Some (n, p)) b) w e) in
-    let (i, j) = level_run w (step (Some (n, p)) b) e in
+level_run (b ∷ w) (Some s) e =
+    let (h, g) = move_level (move s.level b s.phase) (alive_before (step (Some s) b) w e) in
+    let (i, j) = level_run w (step (Some s) b) e in
     (ap (λ m. after m w) h ∙ i, omega (arith, sum_by-cons (λ x. cond (eqb x 91) 1 0) b w, sum_by-cons (λ x. cond (eqb x 93) 1 0) b w))
 
 pub scan_tells_level : ScanTellsLevel
-scan_tells_level bytes n p e = let (_, h) = level_run bytes (Some (0, may_begin)) (rw e refl) in let g : depth (scan bytes) ≡ n = rw e refl in omega arith
+scan_tells_level bytes n p e = let (_, h) = level_run bytes (Some (at 0 may_begin)) (rw e refl) in let g : depth (scan bytes) ≡ n = rw e refl in omega arith
 
 -- the level of bytes that go on
 level_after : (bytes : List ℕ) → goes_on (scan bytes) ≡ true → level bytes ≡ after 0 bytes
-level_after bytes e = let (g, h) = level_run bytes (Some (0, may_begin)) e in omega arith
+level_after bytes e = let (g, h) = level_run bytes (Some (at 0 may_begin)) e in omega arith
 
 -- the highest level on the way
 abbrev peak : ℕ → List ℕ → ℕ

@@ -8,7 +8,7 @@ use Rattle.forms.specs.Documents.{Document}
 use Rattle.documents.specs.Grammar.{Text, comma_before, spelled_document, Small}
 use Rattle.forms.specs.Documents.Document.{void, reference, element}
 use Rattle.forms.specs.Limits.{max_rows, label_count}
-use Rattle.documents.specs.Scan.{State, may_end, is_digit, may_follow, closed, begun, moved, step, run, scan, goes_on, is_whole, ScanTellsTexts, ScanTellsGoingOn}
+use Rattle.documents.specs.Scan.{at, State, may_end, is_digit, may_follow, closed, begun, moved, step, run, scan, goes_on, is_whole, ScanTellsTexts, ScanTellsGoingOn}
 use Rattle.documents.specs.declared.scan.Phase.{Phase}
 use Rattle.documents.specs.declared.scan.Phase.TheVariants.{MayBegin as may_begin, MustBegin as must_begin, InLabel as in_label, AfterAt as after_at, InRow as in_row, AfterElement as after_element}
 use Rattle.forms.proofs.Findings.{never}
@@ -25,58 +25,58 @@ run_stuck [] = refl
 run_stuck (b ∷ u) = run_stuck u
 
 -- EACH TEXT IS WHOLE
-label_begins : (n d : ℕ) → d < 10 → step (Some (n, may_begin)) (48 + d) ≡ Some (n, in_label d)
+label_begins : (n d : ℕ) → d < 10 → step (Some (at n may_begin)) (48 + d) ≡ Some (at n (in_label d))
 label_begins n d h = grind (arith, nat_tests)
 
-label_must_begin : (n d : ℕ) → d < 10 → step (Some (n, must_begin)) (48 + d) ≡ Some (n, in_label d)
+label_must_begin : (n d : ℕ) → d < 10 → step (Some (at n must_begin)) (48 + d) ≡ Some (at n (in_label d))
 label_must_begin n d h = grind (arith, nat_tests)
 
-row_begins : (n d : ℕ) → d < 10 → step (Some (n, after_at)) (48 + d) ≡ Some (n, in_row d)
+row_begins : (n d : ℕ) → d < 10 → step (Some (at n after_at)) (48 + d) ≡ Some (at n (in_row d))
 row_begins n d h = grind (arith, nat_tests)
 
-label_goes_on : (n v d : ℕ) → d < 10 → 1 ≤ v → v * 10 + d < label_count → step (Some (n, in_label v)) (48 + d) ≡ Some (n, in_label (v * 10 + d))
+label_goes_on : (n v d : ℕ) → d < 10 → 1 ≤ v → v * 10 + d < label_count → step (Some (at n (in_label v))) (48 + d) ≡ Some (at n (in_label (v * 10 + d)))
 label_goes_on n v d h l g = grind (arith, nat_tests)
 
-row_goes_on : (n v d : ℕ) → d < 10 → 1 ≤ v → v * 10 + d < max_rows → step (Some (n, in_row v)) (48 + d) ≡ Some (n, in_row (v * 10 + d))
+row_goes_on : (n v d : ℕ) → d < 10 → 1 ≤ v → v * 10 + d < max_rows → step (Some (at n (in_row v))) (48 + d) ≡ Some (at n (in_row (v * 10 + d)))
 row_goes_on n v d h l g = grind (arith, nat_tests)
 
-label_read : (n x : ℕ) {f : List ℕ} → x < label_count → Figures x f → run (Some (n, may_begin)) f ≡ Some (n, in_label x)
+label_read : (n x : ℕ) {f : List ℕ} → x < label_count → Figures x f → run (Some (at n may_begin)) f ≡ Some (at n (in_label x))
 label_read n x h (one g) = label_begins n x g
-label_read n x h (two l g) = rw (label_begins n (x / 10) g, label_goes_on n (x / 10) (x % 10) (omega arith) l (omega arith)) (ap (λ v. Some (n, in_label v)) (omega arith))
+label_read n x h (two l g) = rw (label_begins n (x / 10) g, label_goes_on n (x / 10) (x % 10) (omega arith) l (omega arith)) (ap (λ v. Some (at n (in_label v))) (omega arith))
 
-row_read : (n x : ℕ) {f : List ℕ} → x < max_rows → Figures x f → run (Some (n, after_at)) f ≡ Some (n, in_row x)
+row_read : (n x : ℕ) {f : List ℕ} → x < max_rows → Figures x f → run (Some (at n after_at)) f ≡ Some (at n (in_row x))
 row_read n x h (one g) = row_begins n x g
-row_read n x h (two l g) = rw (row_begins n (x / 10) g, row_goes_on n (x / 10) (x % 10) (omega arith) l (omega arith)) (ap (λ v. Some (n, in_row v)) (omega arith))
+row_read n x h (two l g) = rw (row_begins n (x / 10) g, row_goes_on n (x / 10) (x % 10) (omega arith) l (omega arith)) (ap (λ v. Some (at n (in_row v))) (omega arith))
 
 -- after a list
 pub data Ended (n : ℕ) : State → Type 0 where
-  ended : {p : Phase} → may_end p ≡ true → Ended n (Some (n, p))
+  ended : {p : Phase} → may_end p ≡ true → Ended n (Some (at n p))
 
-close_ended : {n : ℕ} {s : State} → Ended (suc n) s → (t : List ℕ) → run s (93 ∷ t) ≡ run (Some (n, after_element)) t
-close_ended {n} (ended e) t = ap (λ c. run (cond c (Some (n, after_element)) None) t) e
+close_ended : {n : ℕ} {s : State} → Ended (suc n) s → (t : List ℕ) → run s (93 ∷ t) ≡ run (Some (at n after_element)) t
+close_ended {n} (ended e) t = ap (λ c. run (cond c (Some (at n after_element)) None) t) e
 
 whole_ended : {s : State} → Ended 0 s → is_whole s ≡ true
 whole_ended (ended e) = e
 
 -- a list begins where it must as where it may
-must_may : (n : ℕ) {x : ℕ} {f : List ℕ} → Figures x f → (s : List ℕ) → run (Some (n, must_begin)) (f ++ s) ≡ run (Some (n, may_begin)) (f ++ s)
+must_may : (n : ℕ) {x : ℕ} {f : List ℕ} → Figures x f → (s : List ℕ) → run (Some (at n must_begin)) (f ++ s) ≡ run (Some (at n may_begin)) (f ++ s)
 must_may n {x} (one h) s = ap (λ t. run t s) (label_must_begin n x h ∙ sym (label_begins n x h))
 must_may n {x} (two l h) s = ap (λ t. run t ((48 + x % 10) ∷ s)) (label_must_begin n (x / 10) h ∙ sym (label_begins n (x / 10) h))
 
-follow_ended : (n : ℕ) (b : Document) → Small b → Ended n (run (Some (n, may_begin)) (spelled_document b)) → Ended n (run (Some (n, after_element)) (comma_before b ++ spelled_document b))
+follow_ended : (n : ℕ) (b : Document) → Small b → Ended n (run (Some (at n may_begin)) (spelled_document b)) → Ended n (run (Some (at n after_element)) (comma_before b ++ spelled_document b))
 follow_ended n void h e = ended refl
 follow_ended n (reference m) h e = e
 follow_ended n (element x a b) h e = subst (Ended n) (sym (must_may n (figures x h.0) _)) e
 
-document_read : (d : Document) → Small d → (n : ℕ) → Ended n (run (Some (n, may_begin)) (spelled_document d))
+document_read : (d : Document) → Small d → (n : ℕ) → Ended n (run (Some (at n may_begin)) (spelled_document d))
 document_read void h n = ended refl
 document_read (reference m) h n = rw (row_read n m h (figures m h)) (ended refl)
 document_read (element x a b) h n =
     let behind = 93 ∷ (comma_before b ++ spelled_document b) in
     rw (
-      run_append (Some (n, may_begin)) (decimal x) (91 ∷ (spelled_document a ++ behind)),
+      run_append (Some (at n may_begin)) (decimal x) (91 ∷ (spelled_document a ++ behind)),
       label_read n x h.0 (figures x h.0),
-      run_append (Some (suc n, may_begin)) (spelled_document a) behind,
+      run_append (Some (at (suc n) may_begin)) (spelled_document a) behind,
       close_ended (document_read a h.1 (suc n)) (comma_before b ++ spelled_document b),
     )
     (follow_ended n b h.2 (document_read b h.2 n))
@@ -98,14 +98,14 @@ Follows limit v b = Digit b × (1 ≤ v) × (v * 10 + (b - 48) < limit)
 
 pub data Move : ℕ → Phase → ℕ → State → Type 0 where
   nowhere : {n b : ℕ} {p : Phase} → Move n p b None
-  closes : {n : ℕ} {p : Phase} → may_end p ≡ true → Move (suc n) p 93 (Some (n, after_element))
-  opens : {n v : ℕ} → Move n (in_label v) 91 (Some (suc n, may_begin))
-  to_label : {n b : ℕ} {p : Phase} → Begins p → Digit b → Move n p b (Some (n, in_label (b - 48)))
-  to_row : {n : ℕ} {p : Phase} → Begins p → Move n p 64 (Some (n, after_at))
-  on_label : {n v b : ℕ} → Follows label_count v b → Move n (in_label v) b (Some (n, in_label (v * 10 + (b - 48))))
-  into_row : {n b : ℕ} → Digit b → Move n after_at b (Some (n, in_row (b - 48)))
-  on_row : {n v b : ℕ} → Follows max_rows v b → Move n (in_row v) b (Some (n, in_row (v * 10 + (b - 48))))
-  on_list : {n : ℕ} → Move n after_element 44 (Some (n, must_begin))
+  closes : {n : ℕ} {p : Phase} → may_end p ≡ true → Move (suc n) p 93 (Some (at n after_element))
+  opens : {n v : ℕ} → Move n (in_label v) 91 (Some (at (suc n) may_begin))
+  to_label : {n b : ℕ} {p : Phase} → Begins p → Digit b → Move n p b (Some (at n (in_label (b - 48))))
+  to_row : {n : ℕ} {p : Phase} → Begins p → Move n p 64 (Some (at n after_at))
+  on_label : {n v b : ℕ} → Follows label_count v b → Move n (in_label v) b (Some (at n (in_label (v * 10 + (b - 48)))))
+  into_row : {n b : ℕ} → Digit b → Move n after_at b (Some (at n (in_row (b - 48))))
+  on_row : {n v b : ℕ} → Follows max_rows v b → Move n (in_row v) b (Some (at n (in_row (v * 10 + (b - 48)))))
+  on_list : {n : ℕ} → Move n after_element 44 (Some (at n must_begin))
 
 digit_told : (b : ℕ) → is_digit b ≡ true → Digit b
 digit_told b e = grind (arith, nat_tests)
@@ -123,23 +123,23 @@ follow_told limit v b e = grind (arith, nat_tests)
 begun_move : (n b : ℕ) {p : Phase} → Begins p → Move n p b (begun n b)
 begun_move n b {p} f = cond_both (is_digit b) _ _ (Move n p b)
     (λ e. to_label f (digit_told b e))
-    (λ _. cond_both (eqb b 64) _ _ (Move n p b) (λ e. subst (λ c. Move n p c (Some (n, after_at))) (sym (eqb-true b 64 e)) (to_row f)) (λ _. nowhere))
+    (λ _. cond_both (eqb b 64) _ _ (Move n p b) (λ e. subst (λ c. Move n p c (Some (at n after_at))) (sym (eqb-true b 64 e)) (to_row f)) (λ _. nowhere))
 
 moved_move : (n b : ℕ) (p : Phase) → Move n p b (moved n p b)
 moved_move n b may_begin = begun_move n b it_may
 moved_move n b must_begin = begun_move n b it_must
 moved_move n b (in_label v) = cond_both (eqb b 91) _ _ (Move n (in_label v) b)
-    (λ e. subst (λ c. Move n (in_label v) c (Some (suc n, may_begin))) (sym (eqb-true b 91 e)) opens)
+    (λ e. subst (λ c. Move n (in_label v) c (Some (at (suc n) may_begin))) (sym (eqb-true b 91 e)) opens)
     (λ _. cond_both (may_follow label_count v b) _ _ (Move n (in_label v) b) (λ e. on_label (follow_told label_count v b e)) (λ _. nowhere))
 moved_move n b after_at = cond_both (is_digit b) _ _ (Move n after_at b) (λ e. into_row (digit_told b e)) (λ _. nowhere)
 moved_move n b (in_row v) = cond_both (may_follow max_rows v b) _ _ (Move n (in_row v) b) (λ e. on_row (follow_told max_rows v b e)) (λ _. nowhere)
-moved_move n b after_element = cond_both (eqb b 44) _ _ (Move n after_element b) (λ e. subst (λ c. Move n after_element c (Some (n, must_begin))) (sym (eqb-true b 44 e)) on_list) (λ _. nowhere)
+moved_move n b after_element = cond_both (eqb b 44) _ _ (Move n after_element b) (λ e. subst (λ c. Move n after_element c (Some (at n must_begin))) (sym (eqb-true b 44 e)) on_list) (λ _. nowhere)
 
 closed_move : (n b : ℕ) (p : Phase) → b ≡ 93 → may_end p ≡ true → Move n p b (closed n)
 closed_move zero b p e h = nowhere
-closed_move (suc n) b p e h = subst (λ c. Move (suc n) p c (Some (n, after_element))) (sym e) (closes h)
+closed_move (suc n) b p e h = subst (λ c. Move (suc n) p c (Some (at n after_element))) (sym e) (closes h)
 
-pub move : (n b : ℕ) (p : Phase) → Move n p b (step (Some (n, p)) b)
+pub move : (n b : ℕ) (p : Phase) → Move n p b (step (Some (at n p)) b)
 move n b p = cond_both (eqb b 93) _ _ (Move n p b) (λ e. cond_both (may_end p) _ _ (Move n p b) (closed_move n b p (eqb-true b 93 e)) (λ _. nowhere)) (λ _. moved_move n b p)
 
 -- what may complete the list that the scan is in
@@ -210,7 +210,7 @@ list_before u (d, s, c, e) = (d, s, rw (c, e) refl)
 brackets_before : (v : ℕ) (u : List ℕ) (a : Document) → Small a → u ≡ spelled_document a → (t : List ℕ) → Rest after_element t → Rest (in_label v) (91 ∷ ((u ++ (93 ∷ [])) ++ t))
 brackets_before v u a ha ea t (b, hb, eb) = λ h. (v, a, b, (h, ha, hb), rw (append_assoc u (93 ∷ []) t, ea, eb) refl)
 
-module _ (w : List ℕ) (on : (n : ℕ) (p : Phase) → is_whole (run (Some (n, p)) w) ≡ true → Finishes n p w) where
+module _ (w : List ℕ) (on : (n : ℕ) (p : Phase) → is_whole (run (Some (at n p)) w) ≡ true → Finishes n p w) where
   finishes_move : {n b : ℕ} {p : Phase} {s : State} → Move n p b s → is_whole (run s w) ≡ true → Finishes n p (b ∷ w)
   unfolding Before
   finishes_move nowhere e = let z : is_whole None ≡ true = rw (run_stuck w) at e in never (cc)
@@ -226,7 +226,7 @@ module _ (w : List ℕ) (on : (n : ℕ) (p : Phase) → is_whole (run (Some (n, 
   finishes_move {n} (on_row {v} {b} h) e = finishes_more n (in_row v) _ (b ∷ []) (on_row_before v b h) w (on n _ e)
   finishes_move {n} on_list e = finishes_more n after_element must_begin (44 ∷ []) list_before w (on n must_begin e)
 
-finishes : (w : List ℕ) (n : ℕ) (p : Phase) → is_whole (run (Some (n, p)) w) ≡ true → Finishes n p w
+finishes : (w : List ℕ) (n : ℕ) (p : Phase) → is_whole (run (Some (at n p)) w) ≡ true → Finishes n p w
 finishes [] zero p e = rest_end p e
 finishes [] (suc n) p e = never (cc)
 finishes (b ∷ w) n p e = finishes_move w (finishes w) (move n b p) e
@@ -246,7 +246,7 @@ to_end after_at = 48 ∷ []
 to_end (in_row v) = []
 to_end after_element = []
 
-ends_list : (n : ℕ) (p : Phase) → Ended n (run (Some (n, p)) (to_end p))
+ends_list : (n : ℕ) (p : Phase) → Ended n (run (Some (at n p)) (to_end p))
 unfolding to_end
 ends_list n may_begin = ended refl
 ends_list n must_begin = ended refl
@@ -260,19 +260,19 @@ ends_text zero h = ([], whole_ended h)
 ends_text (suc n) h = let (t, e) = ends_text n (ended {p = after_element} refl) in (93 ∷ t, rw (close_ended h t) e)
 
 completes : (s : State) → goes_on s ≡ true → (t : List ℕ) × (is_whole (run s t) ≡ true)
-completes (Some (n, p)) e = let (t, h) = ends_text n (ends_list n p) in (to_end p ++ t, rw (run_append (Some (n, p)) (to_end p) t) h)
+completes (Some s) e = let (t, h) = ends_text s.level (ends_list s.level s.phase) in (to_end s.phase ++ t, rw (run_append (Some s) (to_end s.phase) t) h)
 completes None e = never (cc)
 
 alive : (s : State) (t : List ℕ) → is_whole (run s t) ≡ true → goes_on s ≡ true
-alive (Some (n, p)) t e = refl
+alive (Some s) t e = refl
 alive None t e = let z : is_whole None ≡ true = rw (run_stuck t) at e in never (cc)
 
 pub scan_tells_going_on : ScanTellsGoingOn
 scan_tells_going_on bytes = (
-  λ e. let (t, h) = completes (scan bytes) e in let (d, text) = (scan_tells_texts (bytes ++ t)).0 (rw (run_append (Some (0, may_begin)) bytes t) h) in (t, d, text),
-  λ (t, d, h). alive (scan bytes) t (rw (run_append (Some (0, may_begin)) bytes t) at (text_whole (bytes ++ t) d h)),
+  λ e. let (t, h) = completes (scan bytes) e in let (d, text) = (scan_tells_texts (bytes ++ t)).0 (rw (run_append (Some (at 0 may_begin)) bytes t) h) in (t, d, text),
+  λ (t, d, h). alive (scan bytes) t (rw (run_append (Some (at 0 may_begin)) bytes t) at (text_whole (bytes ++ t) d h)),
 )
 
 -- FOR CODE: one more byte
 pub scan_more : (bytes : List ℕ) (k : ℕ) → k < length bytes → scan (take (k + 1) bytes) ≡ step (scan (take k bytes)) (get_or bytes k 0)
-scan_more bytes k h = rw (take_more bytes k 0 h) (run_append (Some (0, may_begin)) (take k bytes) (get_or bytes k 0 ∷ []))
+scan_more bytes k h = rw (take_more bytes k 0 h) (run_append (Some (at 0 may_begin)) (take k bytes) (get_or bytes k 0 ∷ []))

@@ -2,13 +2,18 @@
 use Rattle.std.specs.Prelude.{◌≡◌, ℕ, zero, suc, ◌+◌, ◌-◌, ◌*◌, Bool, true, false, cond, ◌&&◌, List, [], ◌∷◌, Some, None, Option, Decides, ◌==◌, nat_le, nat_lt}
 use Rattle.forms.specs.Limits.{max_rows, label_count}
 use Rattle.documents.specs.declared.scan.Phase.{Phase}
+use Rattle.documents.specs.declared.scan.Scan.{Scan}
 use Rattle.documents.specs.declared.scan.Phase.TheVariants.{MayBegin as may_begin, MustBegin as must_begin, InLabel as in_label, AfterAt as after_at, InRow as in_row, AfterElement as after_element}
 use Rattle.forms.specs.Documents.{Document}
 use Rattle.documents.specs.Grammar.{Text, GoesOn, level}
 
--- After some bytes: how many brackets are open, and where in the list the scan is; or none, where no text goes on so.
+-- so many brackets are open, and the scan is there in a list
+abbrev pub at : ℕ → Phase → Scan
+at n p = record { level = n; phase = p }
+
+-- After some bytes: where the scan is, or none, where no text goes on so.
 abbrev pub State : Type 0
-State = Option (ℕ × Phase)
+State = Option Scan
 
 -- the list may end here
 abbrev pub may_end : Phase → Bool
@@ -29,39 +34,43 @@ may_follow limit v b = is_digit b && (nat_le 1 v && nat_lt (v * 10 + (b - 48)) l
 -- a bracket is closed
 abbrev pub closed : ℕ → State
 closed zero = None
-closed (suc n) = Some (n, after_element)
+closed (suc n) = Some (at n after_element)
 
 -- an item begins
 abbrev pub begun : ℕ → ℕ → State
-begun n b = cond (is_digit b) (Some (n, in_label (b - 48))) (cond (b == 64) (Some (n, after_at)) None)
+begun n b = cond (is_digit b) (Some (at n (in_label (b - 48)))) (cond (b == 64) (Some (at n after_at)) None)
 
 -- a byte other than ]
 abbrev pub moved : ℕ → Phase → ℕ → State
 moved n may_begin b = begun n b
 moved n must_begin b = begun n b
-moved n (in_label v) b = cond (b == 91) (Some (suc n, may_begin)) (cond (may_follow label_count v b) (Some (n, in_label (v * 10 + (b - 48)))) None)
-moved n after_at b = cond (is_digit b) (Some (n, in_row (b - 48))) None
-moved n (in_row v) b = cond (may_follow max_rows v b) (Some (n, in_row (v * 10 + (b - 48)))) None
-moved n after_element b = cond (b == 44) (Some (n, must_begin)) None
+moved n (in_label v) b = cond (b == 91) (Some (at (suc n) may_begin)) (cond (may_follow label_count v b) (Some (at n (in_label (v * 10 + (b - 48))))) None)
+moved n after_at b = cond (is_digit b) (Some (at n (in_row (b - 48)))) None
+moved n (in_row v) b = cond (may_follow max_rows v b) (Some (at n (in_row (v * 10 + (b - 48))))) None
+moved n after_element b = cond (b == 44) (Some (at n must_begin)) None
 
 abbrev pub step : State → ℕ → State
 step None b = None
-step (Some (n, p)) b = cond (b == 93) (cond (may_end p) (closed n) None) (moved n p b)
+step (Some s) b = cond (b == 93) (cond (may_end s.phase) (closed s.level) None) (moved s.level s.phase b)
 
 abbrev pub run : State → List ℕ → State
 run s [] = s
 run s (b ∷ bytes) = run (step s b) bytes
 
 abbrev pub scan : List ℕ → State
-scan bytes = run (Some (0, may_begin)) bytes
+scan bytes = run (Some (at 0 may_begin)) bytes
 
 abbrev pub goes_on : State → Bool
-goes_on (Some (n, p)) = true
+goes_on (Some s) = true
 goes_on None = false
 
+-- the text may end here, with so many brackets open
+abbrev pub ends_at : ℕ → Phase → Bool
+ends_at zero p = may_end p
+ends_at (suc n) p = false
+
 abbrev pub is_whole : State → Bool
-is_whole (Some (zero, p)) = may_end p
-is_whole (Some (suc n, p)) = false
+is_whole (Some s) = ends_at s.level s.phase
 is_whole None = false
 
 -- The scan tells whether bytes are a text, and whether they go on.
@@ -73,4 +82,4 @@ ScanTellsGoingOn = (bytes : List ℕ) → Decides (goes_on (scan bytes)) (GoesOn
 
 -- And where they go on, it tells the level of brackets.
 abbrev pub ScanTellsLevel : Type 0
-ScanTellsLevel = (bytes : List ℕ) (n : ℕ) (p : Phase) → scan bytes ≡ Some (n, p) → level bytes ≡ n
+ScanTellsLevel = (bytes : List ℕ) (n : ℕ) (p : Phase) → scan bytes ≡ Some (at n p) → level bytes ≡ n

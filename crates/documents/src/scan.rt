@@ -1,7 +1,8 @@
 // A scan of document text, byte by byte: where it goes on, how deep its brackets are, and how many nodes it takes.
 ghost use Rattle.std.specs.Prelude.{◌≡◌, ◌+◌, ◌-◌, ◌*◌, ◌≤◌, if◌then◌else◌};
 ghost use Rattle.documents.specs.Limits.{max_levels};
-ghost use Rattle.documents.specs.Scan.{may_end, may_follow, closed, begun, moved, step, is_whole};
+ghost use Rattle.documents.specs.Scan.{at, may_end, may_follow, closed, begun, moved, step, is_whole};
+ghost use Rattle.documents.specs.declared.scan.Phase.TheVariants.{MayBegin as may_begin};
 ghost use Rattle.documents.specs.Judged.{JudgedAs, marks};
 
 use super::faults::ReadFault;
@@ -27,13 +28,11 @@ pub enum Phase {
     AfterElement,
 }
 
-fn ends(phase: Phase) -> bool
-    ensures { result ≡ may_end phase }
-{
-    matches!(
-        phase,
-        Phase::MayBegin | Phase::InRow(_) | Phase::AfterElement
-    )
+// Where a scan is: how many brackets are open, and where in a list it goes on.
+#[derive(Clone, Copy)]
+pub struct Scan {
+    level: usize,
+    phase: Phase,
 }
 
 // The number that a digit makes behind another one, if it stays below the limit and has no leading zero.
@@ -48,53 +47,97 @@ fn longer(limit: u8, number: u8, byte: u8) -> Option<u8>
     }
 }
 
-fn close(level: usize) -> Option<(usize, Phase)>
-    ensures { result ≡ closed level }
-{
-    Some((level.checked_sub(1)?, Phase::AfterElement))
-}
-
-fn begin(level: usize, byte: u8) -> Option<(usize, Phase)>
-    ensures { result ≡ begun level byte }
-{
-    match byte {
-        b'@' => Some((level, Phase::AfterAt)),
-        _ => Some((level, Phase::InLabel(digit(byte)?))),
+impl Phase {
+    // Whether the list may end here.
+    fn may_end(self) -> bool
+        ensures { result ≡ may_end self }
+    {
+        matches!(
+            self,
+            Phase::MayBegin | Phase::InRow(_) | Phase::AfterElement
+        )
     }
 }
 
-// After one byte more, which is no closing bracket.
-fn advance(level: usize, phase: Phase, byte: u8) -> Option<(usize, Phase)>
-    requires { level ≤ max_levels }
-    ensures { result ≡ moved level phase byte }
-{
-    match phase {
-        Phase::MayBegin | Phase::MustBegin => begin(level, byte),
-        Phase::InLabel(_) if byte == b'[' => Some((level + 1, Phase::MayBegin)),
-        Phase::InLabel(number) => Some((level, Phase::InLabel(longer(LABELS, number, byte)?))),
-        Phase::AfterAt => Some((level, Phase::InRow(digit(byte)?))),
-        Phase::InRow(number) => Some((level, Phase::InRow(longer(MAX_ROWS as u8, number, byte)?))),
-        Phase::AfterElement => (byte == b',').then_some((level, Phase::MustBegin)),
+impl Scan {
+    // With so many brackets open as before.
+    fn at(self, phase: Phase) -> Scan
+        ensures { result ≡ at self.level phase }
+    {
+        Scan {
+            level: self.level,
+            phase,
+        }
     }
-}
 
-// After one byte more: how many brackets are open, and where in a list the scan is; none where no text goes on so.
-fn next(level: usize, phase: Phase, byte: u8) -> Option<(usize, Phase)>
-    requires { level ≤ max_levels }
-    ensures { result ≡ step (Some (level, phase)) byte }
-{
-    match byte {
-        b']' if ends(phase) => close(level),
-        b']' => None,
-        _ => advance(level, phase, byte),
+    // A bracket is closed.
+    fn close(self) -> Option<Scan>
+        ensures { result ≡ closed self.level }
+    {
+        Some(Scan {
+            level: self.level.checked_sub(1)?,
+            phase: Phase::AfterElement,
+        })
     }
-}
 
-// The text may end here.
-fn whole(level: usize, phase: Phase) -> bool
-    ensures { result ≡ is_whole (Some (level, phase)) }
-{
-    level == 0 && ends(phase)
+    // A bracket is opened.
+    fn open(self) -> Scan
+        requires { self.level ≤ max_levels }
+        ensures { result ≡ at (self.level + 1) may_begin }
+    {
+        Scan {
+            level: self.level + 1,
+            phase: Phase::MayBegin,
+        }
+    }
+
+    // An item begins.
+    fn begin(self, byte: u8) -> Option<Scan>
+        ensures { result ≡ begun self.level byte }
+    {
+        match byte {
+            b'@' => Some(self.at(Phase::AfterAt)),
+            _ => Some(self.at(Phase::InLabel(digit(byte)?))),
+        }
+    }
+
+    // After one byte more, which is no closing bracket.
+    fn advance(self, byte: u8) -> Option<Scan>
+        requires { self.level ≤ max_levels }
+        ensures { result ≡ moved self.level self.phase byte }
+    {
+        match self.phase {
+            Phase::MayBegin | Phase::MustBegin => self.begin(byte),
+            Phase::InLabel(_) if byte == b'[' => Some(self.open()),
+            Phase::InLabel(number) => Some(self.at(Phase::InLabel(longer(LABELS, number, byte)?))),
+            Phase::AfterAt => Some(self.at(Phase::InRow(digit(byte)?))),
+            Phase::InRow(number) => Some(self.at(Phase::InRow(longer(
+                MAX_ROWS as u8,
+                number,
+                byte,
+            )?))),
+            Phase::AfterElement => (byte == b',').then_some(self.at(Phase::MustBegin)),
+        }
+    }
+
+    // After one byte more; none where no text goes on so.
+    fn next(self, byte: u8) -> Option<Scan>
+        requires { self.level ≤ max_levels }
+        ensures { result ≡ step (Some self) byte }
+    {
+        match byte {
+            b']' if self.phase.may_end() => self.close(),
+            b']' => None,
+            _ => self.advance(byte),
+        }
+    }
+
+    // Whether the text may end here.
+    fn is_whole(self) -> bool
+        ensures { result ≡ is_whole (Some self) }
+    {
+        self.level == 0 && self.phase.may_end()
+    }
 }
 
 // Each element and each reference takes a node: [ and @ begin one.
@@ -108,17 +151,19 @@ fn nodes_of(byte: u8) -> usize
 pub fn judge(text: &[u8]) -> Result<usize, ReadFault>
     ensures { JudgedAs text.now result }
 {
-    let mut level = 0;
-    let mut phase = Phase::MayBegin;
+    let mut scan = Scan {
+        level: 0,
+        phase: Phase::MayBegin,
+    };
     let mut nodes = 1;
     for (place, byte) in text.iter().enumerate() {
-        (level, phase) = next(level, phase, *byte).ok_or(ReadFault::Wrong { place })?;
-        if level > MAX_LEVELS {
+        scan = scan.next(*byte).ok_or(ReadFault::Wrong { place })?;
+        if scan.level > MAX_LEVELS {
             return Err(ReadFault::TooDeep { place });
         }
         nodes += nodes_of(*byte);
     }
-    if whole(level, phase) {
+    if scan.is_whole() {
         Ok(nodes)
     } else {
         Err(ReadFault::Wrong { place: text.len() })
