@@ -15,15 +15,6 @@ use sets;
 use verdicts::prepared::Prepared;
 use verdicts::prepared::deciding::PAIR_WORDS;
 
-// How many rows there are.
-pub(crate) fn row_count(prepared: &Prepared) -> usize
-    ensures is { result ≡ count_in prepared.now }
-    ensures some { 0 < result }
-    ensures few { result ≤ max_rows }
-{
-    prepared.count()
-}
-
 // Adds the row that the node refers to, if it does.
 fn refer(rows: &mut [u64], node: Node)
     ensures { (a : ℕ) → a < max_rows → max_rows ≤ word * length rows.old → Decides (member rows.new a) ((member rows.old a ≡ true) ⊎ (node ≡ Reference a)) }
@@ -58,6 +49,6 @@ pub fn wanted(prepared: &Prepared, nodes: &[Node]) -> [u64; PAIR_WORDS]
     ensures rest { (k : ℕ) → count_in prepared.now * count_in prepared.now ≤ k → member result k ≡ false }
 {
     let rows = referred(nodes);
-    let n = row_count(prepared);
+    let n = prepared.count();
     numbers_where(n * n, |k| wants(prepared, &rows, n, k))
 }

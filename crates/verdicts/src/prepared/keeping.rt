@@ -1,10 +1,12 @@
 // Whether a pair of rows keeps the rules within a set of pairs.
-ghost use Rattle.std.specs.Prelude.{◌≡◌, ℕ, true, Decides};
+ghost use Rattle.std.specs.Prelude.{◌≡◌, ℕ, ◌<◌, ◌≤◌, true, Decides};
 ghost use Rattle.std.specs.List.{slice_get};
+ghost use Rattle.forms.specs.Limits.{max_rows};
 ghost use Rattle.forms.specs.Rows.{belongs};
-ghost use Rattle.schema.specs.Rules.{Keeps};
+ghost use Rattle.schema.specs.Rules.{OffersVoid, Keeps};
+ghost use Rattle.verdicts.specs.Reading.{LabelledBy, ChannelTaken};
 ghost use Rattle.verdicts.specs.Ready.{in_row};
-ghost use Rattle.verdicts.specs.Tests.{capable, takes, meeting, agrees_at, agrees, labels_at, RowTaken};
+ghost use Rattle.verdicts.specs.Tests.{capable, takes, agrees_at, agrees};
 ghost use Rattle.verdicts.specs.Tables.{rows_in, count_in, related_in};
 
 use super::super::rowsets::RowSet;
@@ -13,13 +15,6 @@ use forms::{Capability, FormSource, MAX_ROWS, Row};
 use relation::admission::meets;
 use relation::offering::has;
 use sets;
-
-// Whether two label sets have a label in common.
-pub(crate) fn share(a: u64, b: u64) -> bool
-    ensures { result ≡ meeting a b }
-{
-    meets(a, b)
-}
 
 // Whether all labels of one set are in the other.
 fn covers(all: u64, some: u64) -> bool
@@ -31,7 +26,9 @@ fn covers(all: u64, some: u64) -> bool
 impl Prepared {
     // How many rows there are.
     pub fn count(&self) -> usize
-        ensures { result ≡ count_in self.now }
+        ensures is { result ≡ count_in self.now }
+        ensures some { 0 < result }
+        ensures few { result ≤ max_rows }
     {
         self.table.count()
     }
@@ -84,7 +81,7 @@ impl Prepared {
                     inside,
                     following,
                 },
-            ) => !share(labels, other)
+            ) => !meets(labels, other)
                 || (self.relates(pairs, parts.0, inside)
                     && self.relates(pairs, parts.1, following)),
             _ => true,
@@ -107,20 +104,6 @@ impl Prepared {
         }
     }
 
-    // The labels of the inhabited element rows that row p offers.
-    pub(crate) fn labels_at(&self, p: u8) -> u64
-        ensures { result ≡ labels_at self.now.labels p }
-    {
-        self.labels.get(p as usize).copied().unwrap_or(0)
-    }
-
-    // Whether row p offers a void row.
-    pub(crate) fn offers_void(&self, p: u8) -> bool
-        ensures { Decides result ((o : ℕ) × (in_row self.now.voids p o ≡ true)) }
-    {
-        RowSet::of(&self.voids, p).next().is_some()
-    }
-
     // Whether row q offers a channel row that the channel is below. The likeliest is asked first.
     fn taken(&self, pairs: &[u64], c: (Capability, u8), likely: u8, q: u8) -> bool
         ensures { Decides result ((d : ℕ) × (in_row self.now.channels q d ≡ true) × (takes (related_in self.now pairs.now) c.0 c.1 (slice_get (rows_in self.now) d) ≡ true)) }
@@ -131,9 +114,9 @@ impl Prepared {
         RowSet::of(&self.channels, q).any(|d| self.takes(pairs, c, d))
     }
 
-    // The same, of row c if it is a channel row.
-    pub(crate) fn row_taken(&self, pairs: &[u64], c: u8, q: u8) -> bool
-        ensures { Decides result (RowTaken (rows_in self.now) (related_in self.now pairs.now) (in_row self.now.channels q) c) }
+    // Whether row q offers a channel row that row c, if it is a channel row, is below within the set of pairs.
+    pub fn takes_channel(&self, pairs: &[u64], c: u8, q: u8) -> bool
+        ensures { Decides result (ChannelTaken (rows_in self.now) (related_in self.now pairs.now) c q) }
     {
         match self.table.row(c) {
             Some(Row::Channel(capability, payload)) => self.taken(
@@ -148,9 +131,9 @@ impl Prepared {
 
     // The same, of all channel rows that row p offers.
     fn rows_taken(&self, pairs: &[u64], p: u8, q: u8) -> bool
-        ensures { Decides result ((c : ℕ) → in_row self.now.channels p c ≡ true → RowTaken (rows_in self.now) (related_in self.now pairs.now) (in_row self.now.channels q) c) }
+        ensures { Decides result ((c : ℕ) → in_row self.now.channels p c ≡ true → ChannelTaken (rows_in self.now) (related_in self.now pairs.now) c q) }
     {
-        RowSet::of(&self.channels, p).all(|c| self.row_taken(pairs, c, q))
+        RowSet::of(&self.channels, p).all(|c| self.takes_channel(pairs, c, q))
     }
 
     // Whether a row agrees with all inhabited element rows that row q offers.
@@ -180,21 +163,21 @@ impl Prepared {
 
     // Whether row q offers a void row if row p does.
     fn voids_kept(&self, p: u8, q: u8) -> bool
-        ensures { Decides result (((o : ℕ) × (in_row self.now.voids p o ≡ true)) → (o : ℕ) × (in_row self.now.voids q o ≡ true)) }
+        ensures { Decides result (OffersVoid (rows_in self.now) p → OffersVoid (rows_in self.now) q) }
     {
-        !self.offers_void(p) || self.offers_void(q)
+        !self.gives_void(p) || self.gives_void(q)
     }
 
     // The same, and whether it gives all labels that row p gives.
     fn offers_kept(&self, p: u8, q: u8) -> bool
-        ensures { Decides result ((((o : ℕ) × (in_row self.now.voids p o ≡ true)) → (o : ℕ) × (in_row self.now.voids q o ≡ true)) × ((x : ℕ) → belongs x (labels_at self.now.labels p) ≡ true → belongs x (labels_at self.now.labels q) ≡ true)) }
+        ensures { Decides result ((OffersVoid (rows_in self.now) p → OffersVoid (rows_in self.now) q) × ((x : ℕ) → LabelledBy (rows_in self.now) p x → LabelledBy (rows_in self.now) q x)) }
     {
-        self.voids_kept(p, q) && covers(self.labels_at(q), self.labels_at(p))
+        self.voids_kept(p, q) && covers(self.labels(q), self.labels(p))
     }
 
     // Whether it takes the channel rows that row p offers, and agrees with the element rows.
     fn parts_kept(&self, pairs: &[u64], p: u8, q: u8) -> bool
-        ensures { Decides result (((c : ℕ) → in_row self.now.channels p c ≡ true → RowTaken (rows_in self.now) (related_in self.now pairs.now) (in_row self.now.channels q) c) × ((e : ℕ) → in_row self.now.elements p e ≡ true → (f : ℕ) → in_row self.now.elements q f ≡ true → agrees (related_in self.now pairs.now) (slice_get (rows_in self.now) e) (slice_get (rows_in self.now) f) ≡ true)) }
+        ensures { Decides result (((c : ℕ) → in_row self.now.channels p c ≡ true → ChannelTaken (rows_in self.now) (related_in self.now pairs.now) c q) × ((e : ℕ) → in_row self.now.elements p e ≡ true → (f : ℕ) → in_row self.now.elements q f ≡ true → agrees (related_in self.now pairs.now) (slice_get (rows_in self.now) e) (slice_get (rows_in self.now) f) ≡ true)) }
     {
         self.rows_taken(pairs, p, q) && self.rows_agree(pairs, p, q)
     }

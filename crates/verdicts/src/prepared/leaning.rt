@@ -13,8 +13,8 @@ ghost use Rattle.verdicts.specs.Tables.{rows_in, count_in, related_in};
 use super::super::rowsets::RowSet;
 use super::Prepared;
 use super::deciding::PAIR_WORDS;
-use super::keeping::share;
 use forms::{Capability, FormSource, MAX_ROWS, Row};
+use relation::admission::meets;
 use relation::offering::{CELL_WORDS, has};
 use sets;
 
@@ -56,7 +56,7 @@ fn named_by_element(
                 following,
             },
         ) => {
-            if share(labels, other) {
+            if meets(labels, other) {
                 (Some((parts.0, inside)), Some((parts.1, following)))
             } else {
                 (None, None)

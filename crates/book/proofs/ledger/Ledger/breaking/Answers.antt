@@ -27,26 +27,26 @@ low_place : (words : List ℕ) (m k : ℕ) → ((j : ℕ) → m ≤ j → member
 low_place words m k clear on = ⊎_elim (λ h. h) (λ high. absurd (both_ways _ (clear k high) on)) (cases_lt k m)
 
 pub nonzero_div-pair : goal.nonzero_div-pair
-nonzero_div-pair c = some_rows c.args.self.now c.count-n.result c.count-n.ensures
+nonzero_div-pair c = some_rows c.args.self.now c.count-n.result c.count-n.ensures.is
 
 pub nonzero_rem-pair : goal.nonzero_rem-pair
-nonzero_rem-pair c = some_rows c.args.self.now c.count-n.result c.count-n.ensures
+nonzero_rem-pair c = some_rows c.args.self.now c.count-n.result c.count-n.ensures.is
 
 pub overflow_cast-pair : goal.overflow_cast-pair
 overflow_cast-pair c =
     let l = c.args.self.now in
     let n = c.count-n.result in
-    let few = few_rows l n c.count-n.ensures in
+    let few = few_rows l n c.count-n.ensures.is in
     let on = sym (c.loop-k.invariant.set c.in-Some.k) ∙ c.in-Some.ensures.steps.next.1 in
-    let low = div_below c.in-Some.k n n (some_rows l n c.count-n.ensures) (subst (λ m. c.in-Some.k < m * m) (sym c.count-n.ensures) (low_place c.args.relation.now _ c.in-Some.k c.requires on)) in
+    let low = div_below c.in-Some.k n n (some_rows l n c.count-n.ensures.is) (subst (λ m. c.in-Some.k < m * m) (sym c.count-n.ensures.is) (low_place c.args.relation.now _ c.in-Some.k c.requires on)) in
     omega arith
 
 pub overflow_cast-pair-in-loop-k : goal.overflow_cast-pair-in-loop-k
 overflow_cast-pair-in-loop-k c =
     let l = c.args.self.now in
     let n = c.count-n.result in
-    let few = few_rows l n c.count-n.ensures in
-    let low = mod_below c.in-Some.k n (some_rows l n c.count-n.ensures) in
+    let few = few_rows l n c.count-n.ensures.is in
+    let low = mod_below c.in-Some.k n (some_rows l n c.count-n.ensures.is) in
     omega arith
 
 pub loop-k-init : goal.loop-k-init
@@ -70,7 +70,7 @@ loop-k-preserved c =
       set = λ j. step.same j ∙ set j;
       passed = subst (Passed (member words) (Stands (ledger_rows l) words)) (sym step.behind)
           (passed_more (member words) (Stands (ledger_rows l) words) s.start k (step_found (λ s. member s.words.now) (λ s. s.start) (member words) s c.next.new.self set k step) c.loop-k.invariant.passed
-          (subst (λ m. Keeps (ledger_rows l) (related (length (ledger_rows l)) words) (k / m) (k % m)) c.count-n.ensures (c.keeps.ensures.0 c.if-not-keeps.false)));
+          (subst (λ m. Keeps (ledger_rows l) (related (length (ledger_rows l)) words) (k / m) (k % m)) c.count-n.ensures.is (c.keeps.ensures.0 c.if-not-keeps.false)));
     }
 
 pub returns-then-not-keeps : goal.returns-then-not-keeps
@@ -82,8 +82,8 @@ returns-then-not-keeps c =
     let s = c.loop-k.k-iterator in
     let (from, on, skip) = step_found (λ s. member s.words.now) (λ s. s.start) (member words) s c.next.new.self c.loop-k.invariant.set k c.in-Some.ensures.steps in
     let low = low_place words _ k c.requires on in
-    let broken : Stands rows words k → ⊥ = λ keeps. both_ways _ c.if-not-keeps.true (c.keeps.ensures.1 (subst (λ m. Keeps rows (related (length rows) words) (k / m) (k % m)) (sym c.count-n.ensures) keeps)) in
-    subst (λ m. Breaks rows words (k / m) (k % m)) (sym c.count-n.ensures)
+    let broken : Stands rows words k → ⊥ = λ keeps. both_ways _ c.if-not-keeps.true (c.keeps.ensures.1 (subst (λ m. Keeps rows (related (length rows) words) (k / m) (k % m)) (sym c.count-n.ensures.is) keeps)) in
+    subst (λ m. Breaks rows words (k / m) (k % m)) (sym c.count-n.ensures.is)
     (first_breaks rows words (admitted_of l.prepared).some k low on broken
     (λ j less there. c.loop-k.invariant.passed j (⊎_elim (λ h. h) (λ ge. absurd (both_ways _ (skip j ge less) there)) (cases_lt j s.start)) there))
 

@@ -19,25 +19,25 @@ few_rows : (t : Prepared) (n : ℕ) → n ≡ length (rows_of t.table) → n ≤
 few_rows t n e = subst (λ m. m ≤ max_rows) (sym e) (buffer_laws t.table).few
 
 pub nonzero_div-k : goal.nonzero_div-k
-nonzero_div-k c = some_rows c.args.self.now c.count-n.result c.count-n.ensures
+nonzero_div-k c = some_rows c.args.self.now c.count-n.result c.count-n.ensures.is
 
 pub nonzero_rem-k : goal.nonzero_rem-k
-nonzero_rem-k c = some_rows c.args.self.now c.count-n.result c.count-n.ensures
+nonzero_rem-k c = some_rows c.args.self.now c.count-n.result c.count-n.ensures.is
 
 pub overflow_cast-k : goal.overflow_cast-k
 overflow_cast-k c =
     let t = c.args.self.now in
     let n = c.count-n.result in
-    let few = few_rows t n c.count-n.ensures in
-    let low = div_below c.in-Some.k n n (some_rows t n c.count-n.ensures) (subst (λ m. c.in-Some.k < m * m) (sym c.count-n.ensures) c.in-Some.ensures.0) in
+    let few = few_rows t n c.count-n.ensures.is in
+    let low = div_below c.in-Some.k n n (some_rows t n c.count-n.ensures.is) (subst (λ m. c.in-Some.k < m * m) (sym c.count-n.ensures.is) c.in-Some.ensures.0) in
     omega arith
 
 pub overflow_cast-k-in-Some : goal.overflow_cast-k-in-Some
 overflow_cast-k-in-Some c =
     let t = c.args.self.now in
     let n = c.count-n.result in
-    let few = few_rows t n c.count-n.ensures in
-    let low = mod_below c.in-Some.k n (some_rows t n c.count-n.ensures) in
+    let few = few_rows t n c.count-n.ensures.is in
+    let low = mod_below c.in-Some.k n (some_rows t n c.count-n.ensures.is) in
     omega arith
 
 pub loop-k-init : goal.loop-k-init
@@ -64,14 +64,14 @@ name_pair_once-requires c =
     let n = c.count-n.result in
     let k = c.in-Some.k in
     let inv = c.loop-k.invariant in
-    let few = few_rows t n c.count-n.ensures in
+    let few = few_rows t n c.count-n.ensures.is in
     let small = square_small n few in
-    let low : k < n * n = subst (λ m. k < m * m) (sym c.count-n.ensures) c.in-Some.ensures.0 in
+    let low : k < n * n = subst (λ m. k < m * m) (sym c.count-n.ensures.is) c.in-Some.ensures.0 in
     let put = c.put.ensures.within (let r = inv.leaning.room_done in omega arith) (omega arith) in
     record {
       room = let r = inv.leaning.room_pending in let e = c.remove.auto.words in omega arith;
       space = (inv.room_links, inv.room_parts);
-      second = let h = mod_below k n (some_rows t n c.count-n.ensures) in omega arith;
+      second = let h = mod_below k n (some_rows t n c.count-n.ensures.is) in omega arith;
       noted = (
         noted_done rows t.channels c.loop-k.links c.loop-k.done c.put.new.words c.loop-k.pending c.remove.new.words k put c.remove.ensures inv.linked,
         noted_done rows t.elements c.loop-k.parts c.loop-k.done c.put.new.words c.loop-k.pending c.remove.new.words k put c.remove.ensures inv.parted,
@@ -84,7 +84,7 @@ loop-k-smaller c =
     let k = c.in-Some.k in
     leaning_less rows c.args.starts c.loop-k.done c.loop-k.pending c.put.new.words c.remove.new.words c.name_pair_once.new.pending k c.loop-k.invariant.leaning c.in-Some.ensures.0 c.in-Some.ensures.1
     c.put.auto.words c.remove.auto.words c.name_pair_once.auto.pending c.remove.ensures c.put.ensures.within
-    (subst (λ m. Pended (NamedFor rows (k / m) (k % m)) c.put.new.words c.remove.new.words c.name_pair_once.new.pending) c.count-n.ensures c.name_pair_once.ensures.pended)
+    (subst (λ m. Pended (NamedFor rows (k / m) (k % m)) c.put.new.words c.remove.new.words c.name_pair_once.new.pending) c.count-n.ensures.is c.name_pair_once.ensures.pended)
     (max_rows * max_rows) refl
 
 pub loop-k-preserved : goal.loop-k-preserved
@@ -94,7 +94,7 @@ loop-k-preserved c =
     record {
       leaning = leaning_more rows c.args.starts c.loop-k.done c.loop-k.pending c.put.new.words c.remove.new.words c.name_pair_once.new.pending k c.loop-k.invariant.leaning c.in-Some.ensures.0 c.in-Some.ensures.1
           c.put.auto.words c.remove.auto.words c.name_pair_once.auto.pending c.remove.ensures c.put.ensures.within
-          (subst (λ m. Pended (NamedFor rows (k / m) (k % m)) c.put.new.words c.remove.new.words c.name_pair_once.new.pending) c.count-n.ensures c.name_pair_once.ensures.pended);
+          (subst (λ m. Pended (NamedFor rows (k / m) (k % m)) c.put.new.words c.remove.new.words c.name_pair_once.new.pending) c.count-n.ensures.is c.name_pair_once.ensures.pended);
       room_links = let r = c.loop-k.invariant.room_links in let e = c.name_pair_once.auto.links in omega arith;
       room_parts = let r = c.loop-k.invariant.room_parts in let e = c.name_pair_once.auto.parts in omega arith;
       linked = c.name_pair_once.ensures.noted.0;

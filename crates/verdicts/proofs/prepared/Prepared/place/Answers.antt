@@ -18,8 +18,8 @@ pub returns-then-q-n : goal.returns-then-q-n
 returns-then-q-n c =
     let t = c.args.self.now in
     let n = c.count-n.result in
-    let few : n ≤ max_rows = subst (λ m. m ≤ max_rows) (sym c.count-n.ensures) (buffer_laws t.table).few in
+    let few : n ≤ max_rows = subst (λ m. m ≤ max_rows) (sym c.count-n.ensures.is) (buffer_laws t.table).few in
     record {
-      is = here n (length (rows_of t.table)) c.in_ok-p.p c.in_ok-p.q c.count-n.ensures c.if-p-n.true c.if-q-n.true ∙ ap (place_of (length (rows_of t.table))) (sym c.in_ok-p.was);
+      is = here n (length (rows_of t.table)) c.in_ok-p.p c.in_ok-p.q c.count-n.ensures.is c.if-p-n.true c.if-q-n.true ∙ ap (place_of (length (rows_of t.table))) (sym c.in_ok-p.was);
       small = λ k. low n c.in_ok-p.p c.in_ok-p.q k few c.if-p-n.true c.if-q-n.true;
     }
