@@ -14,8 +14,8 @@ use Rattle.schema.specs.Rules.Leans.{on_itself, on_named}
 use Rattle.schema.specs.Theorems.{Confined}
 use Rattle.schema.proofs.Leaning.{leans_on}
 use Rattle.schema.proofs.Order.{square_in, square_out, square_confined}
-use Rattle.verdicts.specs.Naming.{place_of, NamedFor, Noted, Pended}
-use Rattle.verdicts.specs.Pairs.{related, Leaned}
+use Rattle.verdicts.specs.Naming.{NamedFor, Noted, Pended}
+use Rattle.verdicts.specs.Pairs.{place_of, related, Leaned}
 use Rattle.verdicts.proofs.Deciding.{between_parts, between_from, place_div, place_mod}
 use Rattle.verdicts.proofs.Naming.{place_in, place_parts}
 

@@ -20,5 +20,6 @@ pub struct Prepared {
 pub mod deciding;
 pub mod keeping;
 pub mod leaning;
+pub mod places;
 pub mod reading;
 pub mod sorting;

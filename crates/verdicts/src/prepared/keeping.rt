@@ -37,8 +37,7 @@ impl Prepared {
     pub fn relates(&self, pairs: &[u64], p: u8, q: u8) -> bool
         ensures { result ≡ related_in self.now pairs.now p q }
     {
-        let n = self.count();
-        (p as usize) < n && (q as usize) < n && sets::test(pairs, p as usize * n + q as usize)
+        self.place((p, q)).is_some_and(|k| sets::test(pairs, k))
     }
 
     // Whether a channel is below another: payloads of in channels compare forward, those of out channels backward, and of both both ways.

@@ -5,8 +5,8 @@ ghost use Rattle.sets.specs.Sets.{member, word};
 ghost use Rattle.forms.specs.Limits.{max_rows};
 ghost use Rattle.schema.specs.Rules.{Below, Included, Leans};
 ghost use Rattle.schema.specs.Theorems.{Confined};
-ghost use Rattle.verdicts.specs.Naming.{names_of_payloads, names_by_channel, names_by_element, named_by, place_of, NamedAt, NamedAmong, NamedWith, NamedFor, Noted, Pended};
-ghost use Rattle.verdicts.specs.Pairs.{Leaned};
+ghost use Rattle.verdicts.specs.Naming.{names_of_payloads, names_by_channel, names_by_element, named_by, NamedAt, NamedAmong, NamedWith, NamedFor, Noted, Pended};
+ghost use Rattle.verdicts.specs.Pairs.{place_of, Leaned};
 ghost use Rattle.verdicts.specs.Ready.{in_row};
 ghost use Rattle.verdicts.specs.Tables.{rows_in, count_in, related_in};
 
@@ -97,18 +97,12 @@ fn pend(done: &[u64], pending: &mut [u64], place: Option<usize>)
 }
 
 impl Prepared {
-    // The place of a pair, if it is a pair of rows.
-    fn place(&self, pair: Option<(u8, u8)>) -> Option<usize>
+    // The place of a pair, if there is a pair, and it is one of rows.
+    fn place_if(&self, pair: Option<(u8, u8)>) -> Option<usize>
         ensures is { result ≡ place_of (count_in self.now) pair }
         ensures small { (k : ℕ) → result ≡ Some k → k < max_rows * max_rows }
     {
-        let (p, q) = pair?;
-        let n = self.count();
-        if (p as usize) < n && (q as usize) < n {
-            Some(p as usize * n + q as usize)
-        } else {
-            None
-        }
+        self.place(pair?)
     }
 
     // Notes the pairs that the rules name for two rows.
@@ -117,8 +111,8 @@ impl Prepared {
         ensures { Pended (NamedAt (count_in self.now) c d) done.now pending.old pending.new }
     {
         let (one, two) = named_by(c, d);
-        pend(done, pending, self.place(one));
-        pend(done, pending, self.place(two));
+        pend(done, pending, self.place_if(one));
+        pend(done, pending, self.place_if(two));
     }
 
     // Notes the pairs that the rules name for a row and those in the set of row q.
@@ -234,7 +228,7 @@ impl Prepared {
         ensures { (k : ℕ) → Decides (member result k) (place_of (count_in self.now) (Some pair) ≡ Some k) }
     {
         let mut pairs = [0; PAIR_WORDS];
-        if let Some(k) = self.place(Some(pair)) {
+        if let Some(k) = self.place(pair) {
             sets::put(&mut pairs, k);
         }
         pairs
