@@ -11,3 +11,4 @@ pub mod Reading
 pub mod RowSets
 pub mod Tables
 pub mod Walking
+pub mod Within
