@@ -20,6 +20,7 @@ pub struct Prepared {
 pub mod deciding;
 pub mod keeping;
 pub mod leaning;
+pub mod naming;
 pub mod places;
 pub mod reading;
 pub mod sorting;

@@ -6,14 +6,14 @@ ghost use Rattle.forms.specs.Rows.{belongs};
 ghost use Rattle.schema.specs.Rules.{OffersVoid, Keeps};
 ghost use Rattle.verdicts.specs.Reading.{LabelledBy, ChannelTaken};
 ghost use Rattle.verdicts.specs.Ready.{in_row};
-ghost use Rattle.verdicts.specs.Tests.{capable, takes, agrees_at, agrees};
+ghost use Rattle.verdicts.specs.Tests.{takes, agrees_at, agrees, related_if};
 ghost use Rattle.verdicts.specs.Tables.{rows_in, count_in, related_in};
 ghost use Rattle.verdicts.specs.Within.{rows_within, relation_of};
 
 use super::super::rowsets::RowSet;
 use super::Prepared;
+use super::naming::{named_by_channel, named_by_element};
 use forms::{Capability, FormSource, MAX_ROWS, Row};
-use relation::admission::meets;
 use relation::offering::has;
 use sets;
 
@@ -39,44 +39,30 @@ impl<'a> Within<'a> {
         self.prepared.relates(self.pairs, p, q)
     }
 
-    // Whether a channel is below another: payloads of in channels compare forward, those of out channels backward, and of both both ways.
-    fn channel_below(&self, c: (Capability, u8), d: (Capability, u8)) -> bool
-        ensures { result ≡ capable c.0 d.0 (relation_of self.now c.1 d.1) (relation_of self.now d.1 c.1) }
+    // Whether the set has the pair, if there is one.
+    fn relates_named(&self, pair: Option<(u8, u8)>) -> bool
+        ensures { result ≡ related_if (relation_of self.now) pair }
     {
-        match (c.0, d.0) {
-            (Capability::In | Capability::Both, Capability::In) if self.relates(c.1, d.1) => true,
-            (Capability::Out | Capability::Both, Capability::Out) if self.relates(d.1, c.1) => true,
-            (Capability::Both, Capability::Both)
-                if self.relates(c.1, d.1) && self.relates(d.1, c.1) => true,
-            _ => false,
+        match pair {
+            Some((p, q)) => self.relates(p, q),
+            None => true,
         }
     }
 
-    // Whether row d is a channel row that the channel is below.
+    // Whether row d is a channel row that the channel is below: the rules name pairs for the two, all of which the set has.
     fn takes(&self, c: (Capability, u8), d: u8) -> bool
         ensures { result ≡ takes (relation_of self.now) c.0 c.1 (slice_get (rows_within self.now) d) }
     {
-        match self.prepared.table.row(d) {
-            Some(Row::Channel(capability, payload)) => self.channel_below(c, (capability, payload)),
-            _ => false,
-        }
+        let (one, two) = named_by_channel(c, self.prepared.table.row(d));
+        (one.is_some() || two.is_some()) && self.relates_named(one) && self.relates_named(two)
     }
 
-    // Whether the parts of an element row are below those of row f, if that is an element row with a common label.
+    // Whether the set has the pairs that the rules name for an element row and row f.
     fn agrees_at(&self, labels: u64, parts: (u8, u8), f: u8) -> bool
         ensures { result ≡ agrees_at (relation_of self.now) labels parts.0 parts.1 (slice_get (rows_within self.now) f) }
     {
-        match self.prepared.table.row(f) {
-            Some(
-                Row::Element {
-                    labels: other,
-                    inside,
-                    following,
-                },
-            ) => !meets(labels, other)
-                || (self.relates(parts.0, inside) && self.relates(parts.1, following)),
-            _ => true,
-        }
+        let (one, two) = named_by_element(labels, parts, self.prepared.table.row(f));
+        self.relates_named(one) && self.relates_named(two)
     }
 
     // The same of two rows, of which the first is given.

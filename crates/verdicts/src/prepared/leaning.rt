@@ -5,7 +5,7 @@ ghost use Rattle.sets.specs.Sets.{member};
 ghost use Rattle.forms.specs.Limits.{max_rows};
 ghost use Rattle.schema.specs.Rules.{Below, Included, Leans};
 ghost use Rattle.schema.specs.Theorems.{Confined};
-ghost use Rattle.verdicts.specs.Naming.{names_of_payloads, names_by_channel, names_by_element, named_by, NamedAt, NamedAmong, NamedWith, NamedFor, Noted};
+ghost use Rattle.verdicts.specs.Naming.{NamedAt, NamedAmong, NamedWith, NamedFor, Noted};
 ghost use Rattle.verdicts.specs.Pairs.{place_of, Leaned};
 ghost use Rattle.verdicts.specs.Ready.{in_row};
 ghost use Rattle.verdicts.specs.Tables.{rows_in, count_in, related_in};
@@ -14,75 +14,10 @@ ghost use Rattle.verdicts.specs.Walking.{Notes, Takes, IsAtRest};
 use super::super::rowsets::RowSet;
 use super::Prepared;
 use super::deciding::PAIR_WORDS;
-use forms::{Capability, FormSource, MAX_ROWS, Row};
-use relation::admission::meets;
+use super::naming::named_by;
+use forms::{FormSource, MAX_ROWS, Row};
 use relation::offering::{CELL_WORDS, has};
 use sets;
-
-// The pairs of payloads that the rules name for two channels.
-fn named_payloads(c: (Capability, u8), d: (Capability, u8)) -> (Option<(u8, u8)>, Option<(u8, u8)>)
-    ensures { result ≡ names_of_payloads c.0 d.0 c.1 d.1 }
-{
-    match (c.0, d.0) {
-        (Capability::In | Capability::Both, Capability::In) => (Some((c.1, d.1)), None),
-        (Capability::Out | Capability::Both, Capability::Out) => (None, Some((d.1, c.1))),
-        (Capability::Both, Capability::Both) => (Some((c.1, d.1)), Some((d.1, c.1))),
-        _ => (None, None),
-    }
-}
-
-// The same for a channel and a row.
-fn named_by_channel(c: (Capability, u8), row: Option<Row>) -> (Option<(u8, u8)>, Option<(u8, u8)>)
-    ensures { result ≡ names_by_channel c.0 c.1 row }
-{
-    match row {
-        Some(Row::Channel(capability, payload)) => named_payloads(c, (capability, payload)),
-        _ => (None, None),
-    }
-}
-
-// The pairs of parts that the rules name for an element and a row.
-fn named_by_element(
-    labels: u64,
-    parts: (u8, u8),
-    row: Option<Row>,
-) -> (Option<(u8, u8)>, Option<(u8, u8)>)
-    ensures { result ≡ names_by_element labels parts.0 parts.1 row }
-{
-    match row {
-        Some(
-            Row::Element {
-                labels: other,
-                inside,
-                following,
-            },
-        ) => {
-            if meets(labels, other) {
-                (Some((parts.0, inside)), Some((parts.1, following)))
-            } else {
-                (None, None)
-            }
-        }
-        _ => (None, None),
-    }
-}
-
-// The pairs that the rules name for two rows.
-fn named_by(c: Option<Row>, d: Option<Row>) -> (Option<(u8, u8)>, Option<(u8, u8)>)
-    ensures { result ≡ named_by c d }
-{
-    match c {
-        Some(Row::Channel(capability, payload)) => named_by_channel((capability, payload), d),
-        Some(
-            Row::Element {
-                labels,
-                inside,
-                following,
-            },
-        ) => named_by_element(labels, (inside, following), d),
-        _ => (None, None),
-    }
-}
 
 // A walk from pairs to the pairs that the rules name for them: those that were gone through, and those that are still to be.
 #[derive(Drop)]
