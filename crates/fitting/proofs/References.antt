@@ -84,12 +84,16 @@ Wants rows set n k = (member set (k / n) ≡ true) × IsChannel rows (k % n)
 module _ (rows : List Row) (nodes : List Node) (n : ℕ) (is : n ≡ length rows) (few : n ≤ max_rows) (set : List ℕ) (referred : (a : ℕ) → a < max_rows → Decides (member set a) (Referred nodes a)) where
   -- a set of the places below n * n that pass a test of them
   module _ (Hit Miss : ℕ → Type 0) (pairs : List ℕ) (passed : (k : ℕ) → member pairs k ≡ true → (k < n * n) × Hit k) (others : (k : ℕ) → k < n * n → member pairs k ≡ false → Miss k)
-      (hit : (k : ℕ) → Hit k → Wants rows set n k) (miss : (k : ℕ) → Miss k → Wants rows set n k → ⊥) where
+      (hit : (k : ℕ) → k < length rows * length rows → Hit k → Wants rows set (length rows) k) (miss : (k : ℕ) → k < length rows * length rows → Miss k → Wants rows set (length rows) k → ⊥) where
+    inside : (k : ℕ) → k < n * n → k < length rows * length rows
+    inside k h = subst (λ m. k < m * m) is h
+
     wanted_pairs : (a b : ℕ) → Decides (related n pairs a b) ((a < n) × Referred nodes a × IsChannel rows b)
     wanted_pairs a b = (
       λ e.
           let (a<, b<, m) = between_parts n (member pairs) a b e in
-          let (there, channel) = hit (a * n + b) (passed (a * n + b) m).1 in
+          let (low, found) = passed (a * n + b) m in
+          let (there, channel) = subst (λ x. Wants rows set x (a * n + b)) (sym is) (hit (a * n + b) (inside (a * n + b) low) found) in
           (a<, (referred a (omega arith)).0 (subst (λ x. member set x ≡ true) (place_div n a b b<) there), subst (IsChannel rows) (place_mod n a b b<) channel),
       λ (a<, refer, channel).
           let b< : b < n = subst (λ x. b < x) (sym is) (at_below rows b channel.2) in
@@ -97,7 +101,9 @@ module _ (rows : List Row) (nodes : List Node) (n : ℕ) (is : n ≡ length rows
             subst (λ x. member set x ≡ true) (sym (place_div n a b b<)) ((referred a (omega arith)).1 refer),
             subst (IsChannel rows) (sym (place_mod n a b b<)) channel,
           ) in
-          between_from n (member pairs) a b a< b< (⊎_elim (λ on. on) (λ off. absurd (miss (a * n + b) (others (a * n + b) (mul-add-lt a n b n a< b<) off) wants)) (cases_Bool (member pairs (a * n + b)))),
+          let low = mul-add-lt a n b n a< b< in
+          between_from n (member pairs) a b a< b<
+          (⊎_elim (λ on. on) (λ off. absurd (miss (a * n + b) (inside (a * n + b) low) (others (a * n + b) low off) (subst (λ x. Wants rows set x (a * n + b)) is wants))) (cases_Bool (member pairs (a * n + b)))),
     )
 
     wanted_rest : (k : ℕ) → n * n ≤ k → member pairs k ≡ false

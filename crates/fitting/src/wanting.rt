@@ -36,11 +36,13 @@ fn referred(nodes: &[Node]) -> [u64; ROW_WORDS]
 }
 
 // Whether the first row of the pair with that place is among the rows, and the second is a channel row.
-fn wants(prepared: &Prepared, rows: &[u64], n: usize, k: usize) -> bool
-    requires { (0 < n) × (n ≤ max_rows) }
-    ensures { Decides result ((member rows.now (k / n) ≡ true) × IsChannel (rows_in prepared.now) (k % n)) }
+fn wants(prepared: &Prepared, rows: &[u64], place: usize) -> bool
+    ensures { place < count_in prepared.now * count_in prepared.now → Decides result ((member rows.now (place / count_in prepared.now) ≡ true) × IsChannel (rows_in prepared.now) (place % count_in prepared.now)) }
 {
-    sets::test(rows, k / n) && is_channel(prepared, (k % n) as u8)
+    match prepared.pair_at(place) {
+        Some((a, b)) => sets::test(rows, a as usize) && is_channel(prepared, b),
+        None => false,
+    }
 }
 
 // The pairs of a row that a node refers to and a channel row.
@@ -50,5 +52,5 @@ pub fn wanted(prepared: &Prepared, nodes: &[Node]) -> [u64; PAIR_WORDS]
 {
     let rows = referred(nodes);
     let n = prepared.count();
-    numbers_where(n * n, |k| wants(prepared, &rows, n, k))
+    numbers_where(n * n, |k| wants(prepared, &rows, k))
 }

@@ -57,6 +57,7 @@ impl Prepared {
     }
 
     // Notes the pairs that the rules name for row c and those in the set of row q, unless that was done before. What was done is in `met`.
+    // As it is: `met` is no part of the walk, since there are two of it, and a walk that held them could not hand on one of them beside itself.
     fn name_once(
         &self,
         walk: &mut Walk,
