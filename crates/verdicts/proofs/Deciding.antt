@@ -45,6 +45,10 @@ pair_parts n k pair e = ⊎_elim
     (λ h. let none = sym (cond-false (ltb k (n * n)) (Some (k / n, k % n)) None (le-ltb k (n * n) h)) ∙ e in never (cc))
     (cases_lt k (n * n))
 
+-- where a place has no pair, it is not below n²
+pub pair_none : (n k : ℕ) → pair_of n k ≡ None → k < n * n → ⊥
+pair_none n k e h = let found = sym (cond-true (ltb k (n * n)) (Some (k / n, k % n)) None (lt-ltb k (n * n) h)) ∙ e in never (cc)
+
 abbrev alone : (ℕ → Bool) → ℕ → ℕ → Bool
 alone S k j = eqb j k && S j
 
