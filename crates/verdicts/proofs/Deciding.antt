@@ -1,6 +1,6 @@
 -- Narrowing a set of places gives the largest part of a relation all pairs of which keep the rules. Assumes nothing.
 use Rattle.std.proofs.Common.{◌≡◌, ℕ, ◌+◌, ◌*◌, ◌/◌, ◌%◌, ◌<◌, ◌≤◌, Bool, true, false, not, ◌&&◌, ◌||◌, eqb, ltb, ◌⊎◌, List, length, Decides, sym, refl, ap, ◌∙◌, subst, subst₂, ⊎_elim, Some, None, arith}
-use Rattle.std.proofs.lemmas.Nat.{mul-add-lt, div-mul-add, mod-mul-add, div_below, mul-le, div-add-mod'}
+use Rattle.std.proofs.lemmas.Nat.{mul-add-lt, div-mul-add, mod-mul-add, mul-le, div-add-mod'}
 use Rattle.std.proofs.lemmas.Bool.{both_ways, cases_Bool, and_parts, and_from, and_left, and_right, cases_lt, cond-true, cond-false, lt-ltb, le-ltb, ltb-true, eqb-true, eq-eqb}
 use Rattle.std.proofs.lemmas.Bool.Decides.{same_from_decides}
 use Rattle.sets.specs.Sets.{member}
@@ -123,10 +123,6 @@ module _ (rows : List Row) (bounded : Bounded rows) where
         (λ e. e ∙ sym (narrowed.within k e))
         (λ ne. ⊎_elim (λ on. absurd (both_ways (T k) ne (narrowed.largest (alone S k) (λ j m. (and_parts (eqb j k) (S j) m).1) (λ j m. let same = eqb-true j k (and_parts (eqb j k) (S j) m).0 in asks_out (alone S k) j (omega arith)) k (and_from _ _ (eq-eqb k k refl) on)))) (λ off. ne ∙ sym off) (cases_Bool (S k)))
         (cases_Bool (T k))
-
--- a place below n² has a pair of numbers that are small
-pub place_small : (n place : ℕ) → 0 < n → n ≤ max_rows → place < n * n → place / n < max_rows
-place_small n place some few h = let low = div_below place n n some h in omega arith
 
 pub square_small : (n : ℕ) → n ≤ max_rows → n * n ≤ max_rows * max_rows
 square_small n few = mul-le n n max_rows max_rows few few
