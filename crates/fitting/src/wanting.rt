@@ -1,6 +1,6 @@
 // Which pairs of rows decide where the references of a document fit.
-ghost use Rattle.std.specs.Prelude.{◌≡◌, ℕ, ◌*◌, ◌/◌, ◌%◌, ◌<◌, ◌≤◌, true, false, ◌⊎◌, length, Decides};
-ghost use Rattle.sets.specs.Sets.{member, word};
+ghost use Rattle.std.specs.Prelude.{◌≡◌, ℕ, ◌*◌, ◌/◌, ◌%◌, ◌<◌, ◌≤◌, true, false, ◌⊎◌, Decides};
+ghost use Rattle.sets.specs.Sets.{member};
 ghost use Rattle.forms.specs.Limits.{max_rows};
 ghost use Rattle.forms.specs.Schema.{IsChannel};
 ghost use Rattle.documents.specs.declared.nodes.Node.TheVariants.{Reference};
@@ -16,8 +16,8 @@ use verdicts::prepared::Prepared;
 use verdicts::prepared::deciding::PAIR_WORDS;
 
 // Adds the row that the node refers to, if it does.
-fn refer(rows: &mut [u64], node: Node)
-    ensures { (a : ℕ) → a < max_rows → max_rows ≤ word * length rows.old → Decides (member rows.new a) ((member rows.old a ≡ true) ⊎ (node ≡ Reference a)) }
+fn refer(rows: &mut [u64; ROW_WORDS], node: Node)
+    ensures { (a : ℕ) → a < max_rows → Decides (member rows.new a) ((member rows.old a ≡ true) ⊎ (node ≡ Reference a)) }
 {
     if let Node::Reference(row) = node {
         sets::put(rows, row as usize);
