@@ -15,6 +15,7 @@ use sets;
 use verdicts::prepared::Prepared;
 
 // The numbers below n that pass the test, as a set.
+// As it is: verdicts gathers rows that pass a test by a loop of its own. One function for both would be public and would ask that the test may be called, and no public function here asks anything.
 pub(crate) fn numbers_where<const W: usize, F: Fn(usize) -> bool>(n: usize, passes: F) -> [u64; W]
     requires callable { (k : ℕ) → k < n → F.pre passes k }
     requires room { (n ≤ word * W) × (n ≤ top) }

@@ -25,6 +25,7 @@ use sets;
 use std::array;
 
 // The inhabited rows that pass the test.
+// As it is: fitting gathers numbers that pass a test by a loop of its own. One function for both would be public and would ask that the test may be called, and no public function here asks anything.
 fn rows_of_sort<F: Fn(Option<Row>) -> bool>(
     table: &RowBuffer,
     analysis: &Analysis,
