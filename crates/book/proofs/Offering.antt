@@ -1,7 +1,7 @@
 -- Opening, clearing, and taking in a relation. Assumes nothing.
 use Rattle.std.proofs.Common.{◌≡◌, ℕ, ◌+◌, ◌*◌, ◌/◌, ◌%◌, ◌<◌, true, false, not, ◌&&◌, List, length, replicate, sym, refl, ap, ◌∙◌, subst, subst₂, ⊎_elim, arith}
 use lib.ListN.{length-replicate}
-use Rattle.std.proofs.lemmas.Nat.{div-add-mod', div_below, mod_below}
+use Rattle.std.proofs.lemmas.Nat.{mul-add-lt, div-add-mod', div_below, mod_below}
 use Rattle.std.proofs.lemmas.Bool.{both_ways, cases_Bool, cases_order}
 use Rattle.sets.specs.Sets.{member, tally, word}
 use Rattle.forms.specs.Laws.{buffer_laws}
@@ -122,23 +122,23 @@ module _ (l : Ledger) (words : List ℕ) where
         unchanged = λ e h. never (cc);
       }
 
--- the pair at place k keeps the rules within the relation
+-- the pair at place k, if there is one, keeps the rules within the relation
 abbrev pub Stands : List Row → List ℕ → ℕ → Type 0
-Stands rows words k = Keeps rows (related (length rows) words) (k / length rows) (k % length rows)
+Stands rows words k = k < length rows * length rows → Keeps rows (related (length rows) words) (k / length rows) (k % length rows)
 
 -- going through a relation, pair by pair
 module _ (rows : List Row) (words : List ℕ) (some : 0 < length rows) where
-  at_pair : (a b : ℕ) → b < length rows → Stands rows words (a * length rows + b) → Keeps rows (related (length rows) words) a b
-  at_pair a b b< h = subst₂ (Keeps rows (related (length rows) words)) (place_div (length rows) a b b<) (place_mod (length rows) a b b<) h
+  at_pair : (a b : ℕ) → a < length rows → b < length rows → Stands rows words (a * length rows + b) → Keeps rows (related (length rows) words) a b
+  at_pair a b a< b< h = subst₂ (Keeps rows (related (length rows) words)) (place_div (length rows) a b b<) (place_mod (length rows) a b b<) (h (mul-add-lt a (length rows) b (length rows) a< b<))
 
   pub all_keep : ((k : ℕ) → member words k ≡ true → Stands rows words k) → Closed rows (related (length rows) words)
-  all_keep each a b h = let (a<, b<, on) = between_parts (length rows) (member words) a b h in at_pair a b b< (each (a * length rows + b) on)
+  all_keep each a b h = let (a<, b<, on) = between_parts (length rows) (member words) a b h in at_pair a b a< b< (each (a * length rows + b) on)
 
   pub first_breaks : (k : ℕ) → k < length rows * length rows → member words k ≡ true → (Stands rows words k → ⊥) → ((j : ℕ) → j < k → member words j ≡ true → Stands rows words j) → Breaks rows words (k / length rows) (k % length rows)
   first_breaks k low on broken before = record {
     has = between_from (length rows) (member words) (k / length rows) (k % length rows) (div_below k (length rows) (length rows) some low) (mod_below k (length rows) some) (subst (λ x. member words x ≡ true) (sym (div-add-mod' k (length rows))) on);
-    broken = broken;
+    broken = λ keeps. broken (λ _. keeps);
     lowest = λ a b less h.
         let (a<, b<, there) = between_parts (length rows) (member words) a b h in
-        at_pair a b b< (before (a * length rows + b) (subst (λ x. a * length rows + b < x) (div-add-mod' k (length rows)) less) there);
+        at_pair a b a< b< (before (a * length rows + b) (subst (λ x. a * length rows + b < x) (div-add-mod' k (length rows)) less) there);
   }

@@ -1,6 +1,5 @@
 -- The rows that nodes refer to, and the pairs that they are the first of. Assumes nothing.
 use Rattle.std.proofs.Common.{◌≡◌, ℕ, ◌+◌, ◌*◌, ◌/◌, ◌%◌, ◌<◌, ◌≤◌, true, false, ◌||◌, eqb, ◌≢◌, ◌⊎◌, List, length, get_or, replicate, Some, Decides, sym, ap, ◌∙◌, subst, inl, inr, ⊎_elim, arith}
-use lib.ListN.{length-replicate}
 use Rattle.std.specs.List.{slice_get}
 use Rattle.std.proofs.lemmas.Nat.{mul-add-lt}
 use Rattle.std.proofs.lemmas.Option.{slice_get-get_or}
@@ -20,11 +19,11 @@ use Rattle.fitting.specs.Marks.{Referred}
 
 -- the row that the node refers to is added
 abbrev pub Refers : List ℕ → List ℕ → Node → Type 0
-Refers old new node = (a : ℕ) → a < max_rows → max_rows ≤ word * length old → Decides (member new a) ((member old a ≡ true) ⊎ (node ≡ Reference a))
+Refers old new node = (a : ℕ) → a < max_rows → Decides (member new a) ((member old a ≡ true) ⊎ (node ≡ Reference a))
 
-pub refers_row : (old new : List ℕ) (node : Node) (row : ℕ) → node ≡ Reference row
+pub refers_row : (old new : List ℕ) (node : Node) (row : ℕ) → word * length old ≡ max_rows → node ≡ Reference row
     → (row < word * length old → row < top → (j : ℕ) → member new j ≡ (eqb j row || member old j)) → ((word * length old ≤ row) ⊎ (top ≤ row) → new ≡ old) → Refers old new node
-refers_row old new node row is within past a low room = ⊎_elim
+refers_row old new node row room is within past a low = ⊎_elim
     (λ h. ⊎_elim (λ small. inside (within h small a)) (λ high. outside (past (inr high)) (λ e. omega arith)) (cases_lt row top))
     (λ h. outside (past (inl h)) (λ e. omega arith))
     (cases_lt row (word * length old))
@@ -42,24 +41,21 @@ refers_row old new node row is within past a low room = ⊎_elim
     outside kept other = (λ m. inl (ap (λ ws. member ws a) (sym kept) ∙ m), ⊎_elim (λ m. ap (λ ws. member ws a) kept ∙ m) (λ e. absurd (other (same e))))
 
 pub refers_none : (old : List ℕ) (node : Node) → ((x : ℕ) → node ≡ Reference x → ⊥) → Refers old old node
-refers_none old node none a low room = (inl, ⊎_elim (λ m. m) (λ e. absurd (none a e)))
+refers_none old node none a low = (inl, ⊎_elim (λ m. m) (λ e. absurd (none a e)))
 
 module _ (nodes : List Node) where
   -- the rows that the nodes before i refer to
   pub record Gone (rows : List ℕ) (i : ℕ) : Type 0 where
-    pub room : word * length rows ≡ max_rows
     pub has : (a : ℕ) → a < max_rows → Decides (member rows a) ((j : ℕ) × (j < i) × (slice_get nodes j ≡ Some (Reference a)))
 
-  pub gone_none : (n : ℕ) → word * n ≡ max_rows → Gone (replicate n 0) 0
-  gone_none n h = record {
-    room = omega (arith, length-replicate {A = ℕ} n 0);
+  pub gone_none : (n : ℕ) → Gone (replicate n 0) 0
+  gone_none n = record {
     has = λ a low. (λ m. absurd (both_ways (member (replicate n 0) a) (zeros_none n a) m), λ (j, less, _). absurd (omega arith));
   }
 
-  pub gone_more : (rows new : List ℕ) (i : ℕ) → i < length nodes → Gone rows i → length new ≡ length rows → Refers rows new (get_or nodes i Void) → Gone new (i + 1)
-  gone_more rows new i lt g same more = record {
-    room = let r = g.room in omega arith;
-    has = λ a low. let (there, back) = more a low (let r = g.room in omega arith) in (
+  pub gone_more : (rows new : List ℕ) (i : ℕ) → i < length nodes → Gone rows i → Refers rows new (get_or nodes i Void) → Gone new (i + 1)
+  gone_more rows new i lt g more = record {
+    has = λ a low. let (there, back) = more a low in (
       λ m. ⊎_elim
           (λ old. let (j, less, e) = (g.has a low).0 old in (j, omega arith, e))
           (λ here. (i, omega arith, slice_get-get_or nodes i Void lt ∙ ap Some here))
@@ -84,12 +80,16 @@ Wants rows set n k = (member set (k / n) ≡ true) × IsChannel rows (k % n)
 module _ (rows : List Row) (nodes : List Node) (n : ℕ) (is : n ≡ length rows) (few : n ≤ max_rows) (set : List ℕ) (referred : (a : ℕ) → a < max_rows → Decides (member set a) (Referred nodes a)) where
   -- a set of the places below n * n that pass a test of them
   module _ (Hit Miss : ℕ → Type 0) (pairs : List ℕ) (passed : (k : ℕ) → member pairs k ≡ true → (k < n * n) × Hit k) (others : (k : ℕ) → k < n * n → member pairs k ≡ false → Miss k)
-      (hit : (k : ℕ) → Hit k → Wants rows set n k) (miss : (k : ℕ) → Miss k → Wants rows set n k → ⊥) where
+      (hit : (k : ℕ) → k < length rows * length rows → Hit k → Wants rows set (length rows) k) (miss : (k : ℕ) → k < length rows * length rows → Miss k → Wants rows set (length rows) k → ⊥) where
+    inside : (k : ℕ) → k < n * n → k < length rows * length rows
+    inside k h = subst (λ m. k < m * m) is h
+
     wanted_pairs : (a b : ℕ) → Decides (related n pairs a b) ((a < n) × Referred nodes a × IsChannel rows b)
     wanted_pairs a b = (
       λ e.
           let (a<, b<, m) = between_parts n (member pairs) a b e in
-          let (there, channel) = hit (a * n + b) (passed (a * n + b) m).1 in
+          let (low, found) = passed (a * n + b) m in
+          let (there, channel) = subst (λ x. Wants rows set x (a * n + b)) (sym is) (hit (a * n + b) (inside (a * n + b) low) found) in
           (a<, (referred a (omega arith)).0 (subst (λ x. member set x ≡ true) (place_div n a b b<) there), subst (IsChannel rows) (place_mod n a b b<) channel),
       λ (a<, refer, channel).
           let b< : b < n = subst (λ x. b < x) (sym is) (at_below rows b channel.2) in
@@ -97,7 +97,9 @@ module _ (rows : List Row) (nodes : List Node) (n : ℕ) (is : n ≡ length rows
             subst (λ x. member set x ≡ true) (sym (place_div n a b b<)) ((referred a (omega arith)).1 refer),
             subst (IsChannel rows) (sym (place_mod n a b b<)) channel,
           ) in
-          between_from n (member pairs) a b a< b< (⊎_elim (λ on. on) (λ off. absurd (miss (a * n + b) (others (a * n + b) (mul-add-lt a n b n a< b<) off) wants)) (cases_Bool (member pairs (a * n + b)))),
+          let low = mul-add-lt a n b n a< b< in
+          between_from n (member pairs) a b a< b<
+          (⊎_elim (λ on. on) (λ off. absurd (miss (a * n + b) (inside (a * n + b) low) (others (a * n + b) low off) (subst (λ x. Wants rows set x (a * n + b)) is wants))) (cases_Bool (member pairs (a * n + b)))),
     )
 
     wanted_rest : (k : ℕ) → n * n ≤ k → member pairs k ≡ false

@@ -9,13 +9,13 @@ ghost use Rattle.verdicts.specs.Ready.{in_row, IsElement};
 ghost use Rattle.fitting.specs.Marks.{Among, holds};
 ghost use Rattle.verdicts.specs.Tables.{rows_in, count_in};
 
-use super::wanting::row_count;
 use forms::{LABELS, Row};
 use relation::offering::{ROW_WORDS, has};
 use sets;
 use verdicts::prepared::Prepared;
 
 // The numbers below n that pass the test, as a set.
+// As it is: verdicts gathers rows that pass a test by a loop of its own. One function for both would be public and would ask that the test may be called, and no public function here asks anything.
 pub(crate) fn numbers_where<const W: usize, F: Fn(usize) -> bool>(n: usize, passes: F) -> [u64; W]
     requires callable { (k : ℕ) → k < n → F.pre passes k }
     requires room { (n ≤ word * W) × (n ≤ top) }
@@ -35,14 +35,14 @@ pub(crate) fn numbers_where<const W: usize, F: Fn(usize) -> bool>(n: usize, pass
 pub(crate) fn void_rows(prepared: &Prepared) -> [u64; ROW_WORDS]
     ensures { (r : ℕ) → Decides (member result r) (OffersVoid (rows_in prepared.now) r) }
 {
-    numbers_where(row_count(prepared), |r| prepared.gives_void(r as u8))
+    numbers_where(prepared.count(), |r| prepared.gives_void(r as u8))
 }
 
 // The rows that row c is paired with.
 pub(crate) fn paired_rows(prepared: &Prepared, pairs: &[u64], c: u8) -> [u64; ROW_WORDS]
     ensures { (d : ℕ) → Decides (member result d) (Among (count_in prepared.now) pairs.now c d) }
 {
-    numbers_where(row_count(prepared), |d| prepared.relates(pairs, c, d as u8))
+    numbers_where(prepared.count(), |d| prepared.relates(pairs, c, d as u8))
 }
 
 // The rows that offer one of the channel rows.
@@ -50,7 +50,7 @@ pub(crate) fn channel_rows(prepared: &Prepared, some: &[u64]) -> [u64; ROW_WORDS
     ensures { (r : ℕ) → Decides (member result r) ((d : ℕ) × Offers (rows_in prepared.now) r d × IsChannel (rows_in prepared.now) d × (member some.now d ≡ true)) }
 {
     numbers_where(
-        row_count(prepared),
+        prepared.count(),
         |r| prepared.channels_of(r as u8).meets(some),
     )
 }
@@ -60,7 +60,7 @@ pub(crate) fn element_rows(prepared: &Prepared, some: &[u64]) -> [u64; ROW_WORDS
     ensures { (r : ℕ) → Decides (member result r) ((e : ℕ) × Offers (rows_in prepared.now) r e × Inhabited (rows_in prepared.now) e × IsElement (rows_in prepared.now) e × (member some.now e ≡ true)) }
 {
     numbers_where(
-        row_count(prepared),
+        prepared.count(),
         |r| prepared.elements_of(r as u8).meets(some),
     )
 }
@@ -100,7 +100,7 @@ pub(crate) fn holding_rows(
     ensures { (e : ℕ) → Decides (member result e) (holds (in_row marks.now) label nodes.0 nodes.1 (slice_get (rows_in prepared.now) e) ≡ true) }
 {
     numbers_where(
-        row_count(prepared),
+        prepared.count(),
         |e| holds(marks, label, nodes, prepared.row(e as u8)),
     )
 }

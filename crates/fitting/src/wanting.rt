@@ -1,6 +1,6 @@
 // Which pairs of rows decide where the references of a document fit.
-ghost use Rattle.std.specs.Prelude.{◌≡◌, ℕ, ◌*◌, ◌/◌, ◌%◌, ◌<◌, ◌≤◌, true, false, ◌⊎◌, length, Decides};
-ghost use Rattle.sets.specs.Sets.{member, word};
+ghost use Rattle.std.specs.Prelude.{◌≡◌, ℕ, ◌*◌, ◌/◌, ◌%◌, ◌<◌, ◌≤◌, true, false, ◌⊎◌, Decides};
+ghost use Rattle.sets.specs.Sets.{member};
 ghost use Rattle.forms.specs.Limits.{max_rows};
 ghost use Rattle.forms.specs.Schema.{IsChannel};
 ghost use Rattle.documents.specs.declared.nodes.Node.TheVariants.{Reference};
@@ -15,18 +15,9 @@ use sets;
 use verdicts::prepared::Prepared;
 use verdicts::prepared::deciding::PAIR_WORDS;
 
-// How many rows there are.
-pub(crate) fn row_count(prepared: &Prepared) -> usize
-    ensures is { result ≡ count_in prepared.now }
-    ensures some { 0 < result }
-    ensures few { result ≤ max_rows }
-{
-    prepared.count()
-}
-
 // Adds the row that the node refers to, if it does.
-fn refer(rows: &mut [u64], node: Node)
-    ensures { (a : ℕ) → a < max_rows → max_rows ≤ word * length rows.old → Decides (member rows.new a) ((member rows.old a ≡ true) ⊎ (node ≡ Reference a)) }
+fn refer(rows: &mut [u64; ROW_WORDS], node: Node)
+    ensures { (a : ℕ) → a < max_rows → Decides (member rows.new a) ((member rows.old a ≡ true) ⊎ (node ≡ Reference a)) }
 {
     if let Node::Reference(row) = node {
         sets::put(rows, row as usize);
@@ -45,11 +36,13 @@ fn referred(nodes: &[Node]) -> [u64; ROW_WORDS]
 }
 
 // Whether the first row of the pair with that place is among the rows, and the second is a channel row.
-fn wants(prepared: &Prepared, rows: &[u64], n: usize, k: usize) -> bool
-    requires { (0 < n) × (n ≤ max_rows) }
-    ensures { Decides result ((member rows.now (k / n) ≡ true) × IsChannel (rows_in prepared.now) (k % n)) }
+fn wants(prepared: &Prepared, rows: &[u64], place: usize) -> bool
+    ensures { place < count_in prepared.now * count_in prepared.now → Decides result ((member rows.now (place / count_in prepared.now) ≡ true) × IsChannel (rows_in prepared.now) (place % count_in prepared.now)) }
 {
-    sets::test(rows, k / n) && is_channel(prepared, (k % n) as u8)
+    match prepared.pair_at(place) {
+        Some((a, b)) => sets::test(rows, a as usize) && is_channel(prepared, b),
+        None => false,
+    }
 }
 
 // The pairs of a row that a node refers to and a channel row.
@@ -58,6 +51,6 @@ pub fn wanted(prepared: &Prepared, nodes: &[Node]) -> [u64; PAIR_WORDS]
     ensures rest { (k : ℕ) → count_in prepared.now * count_in prepared.now ≤ k → member result k ≡ false }
 {
     let rows = referred(nodes);
-    let n = row_count(prepared);
-    numbers_where(n * n, |k| wants(prepared, &rows, n, k))
+    let n = prepared.count();
+    numbers_where(n * n, |k| wants(prepared, &rows, k))
 }

@@ -9,7 +9,6 @@ ghost use Rattle.verdicts.specs.Tables.{rows_in};
 use documents::nodes::Node;
 use drawn::Question;
 use drawn::steps::draw;
-use sets;
 use verdicts::prepared::Prepared;
 
 mod drawn;
@@ -34,7 +33,7 @@ pub fn show(prepared: &Prepared, pair: (u8, u8), nodes: &mut [Node]) -> Option<u
     let leaned = prepared.leaned(pair);
     let mut below = leaned;
     prepared.narrow(&mut below);
-    if sets::test(&below, pair.0 as usize * n + pair.1 as usize) {
+    if prepared.relates(&below, pair.0, pair.1) {
         return None;
     }
     let question = Question {

@@ -1,7 +1,7 @@
 -- Narrowing a set of places gives the largest part of a relation all pairs of which keep the rules. Assumes nothing.
-use Rattle.std.proofs.Common.{◌≡◌, ℕ, ◌+◌, ◌*◌, ◌/◌, ◌%◌, ◌<◌, ◌≤◌, Bool, true, false, not, ◌&&◌, ◌||◌, eqb, ltb, ◌⊎◌, List, length, Decides, sym, refl, ap, ◌∙◌, subst, ⊎_elim, arith}
-use Rattle.std.proofs.lemmas.Nat.{mul-add-lt, div-mul-add, mod-mul-add, div_below, mul-le, div-add-mod'}
-use Rattle.std.proofs.lemmas.Bool.{both_ways, cases_Bool, and_parts, and_from, and_left, and_right, lt-ltb, le-ltb, ltb-true, eqb-true, eq-eqb}
+use Rattle.std.proofs.Common.{◌≡◌, ℕ, ◌+◌, ◌*◌, ◌/◌, ◌%◌, ◌<◌, ◌≤◌, Bool, true, false, not, ◌&&◌, ◌||◌, eqb, ltb, ◌⊎◌, List, length, Decides, sym, refl, ap, ◌∙◌, subst, subst₂, ⊎_elim, Some, None, arith}
+use Rattle.std.proofs.lemmas.Nat.{mul-add-lt, div-mul-add, mod-mul-add, mul-le, div-add-mod'}
+use Rattle.std.proofs.lemmas.Bool.{both_ways, cases_Bool, and_parts, and_from, and_left, and_right, cases_lt, cond-true, cond-false, lt-ltb, le-ltb, ltb-true, eqb-true, eq-eqb}
 use Rattle.std.proofs.lemmas.Bool.Decides.{same_from_decides}
 use Rattle.sets.specs.Sets.{member}
 use Rattle.forms.specs.Limits.{max_rows}
@@ -9,9 +9,10 @@ use Rattle.forms.specs.declared.Row.{Row}
 use Rattle.narrowing.specs.Narrowing.{Within, Narrowed}
 use Rattle.schema.specs.Rules.{Bounded, Relation, Keeps, Closed}
 use Rattle.schema.specs.Theorems.{Part, LargestWithin}
+use Rattle.schema.proofs.Findings.{never}
 use Rattle.schema.proofs.Order.{keeps_more}
 use Rattle.verdicts.specs.Asking.{kept, kept_decides, asks}
-use Rattle.verdicts.specs.Pairs.{between, related}
+use Rattle.verdicts.specs.Pairs.{between, related, pair_of}
 
 -- what it takes to be a pair of the relation
 pub between_parts : (n : ℕ) (S : ℕ → Bool) (p q : ℕ) → between n S p q ≡ true → (p < n) × (q < n) × (S (p * n + q) ≡ true)
@@ -35,6 +36,19 @@ place_div n p q h = div-mul-add p n q h
 pub place_mod : (n p q : ℕ) → q < n → (p * n + q) % n ≡ q
 place_mod n p q h = mod-mul-add p n q h
 
+pub pair_parts : (n k : ℕ) (pair : ℕ × ℕ) → pair_of n k ≡ Some pair → (k < n * n) × (pair.0 ≡ k / n) × (pair.1 ≡ k % n)
+pair_parts n k pair e = ⊎_elim
+    (λ h.
+    let found : Some (k / n, k % n) ≡ Some pair = sym (cond-true (ltb k (n * n)) (Some (k / n, k % n)) None (lt-ltb k (n * n) h)) ∙ e in
+    let same : ◌≡◌ {A = ℕ × ℕ} (k / n, k % n) pair = cc in
+    (h, ap (λ x. x.0) (sym same), ap (λ x. x.1) (sym same)))
+    (λ h. let none = sym (cond-false (ltb k (n * n)) (Some (k / n, k % n)) None (le-ltb k (n * n) h)) ∙ e in never (cc))
+    (cases_lt k (n * n))
+
+-- where a place has no pair, it is not below n²
+pub pair_none : (n k : ℕ) → pair_of n k ≡ None → k < n * n → ⊥
+pair_none n k e h = let found = sym (cond-true (ltb k (n * n)) (Some (k / n, k % n)) None (lt-ltb k (n * n) h)) ∙ e in never (cc)
+
 abbrev alone : (ℕ → Bool) → ℕ → ℕ → Bool
 alone S k j = eqb j k && S j
 
@@ -51,10 +65,10 @@ module _ (rows : List Row) (bounded : Bounded rows) where
   asks_out : (S : ℕ → Bool) (k : ℕ) → n * n ≤ k → yes S k ≡ true
   asks_out S k h = ap (λ b. not b || kept rows bounded (between n S) (k / n) (k % n)) (le-ltb k (n * n) h)
 
-  pub ask_is : (set : List ℕ) (place m : ℕ) (r : Bool) → m ≡ length rows → place < m * m → Decides r (Keeps rows (related (length rows) set) (place / m) (place % m)) → r ≡ asks rows bounded (member set) place
-  ask_is set place m r e h d =
-      let low : place < n * n = subst (λ x. place < x * x) e h in
-      let told : Decides r (Keeps rows (related n set) (place / n) (place % n)) = subst (λ x. Decides r (Keeps rows (related n set) (place / x) (place % x))) e d in
+  pub ask_is : (set : List ℕ) (place : ℕ) (pair : ℕ × ℕ) (r : Bool) → pair_of (length rows) place ≡ Some pair → Decides r (Keeps rows (related (length rows) set) pair.0 pair.1) → r ≡ asks rows bounded (member set) place
+  ask_is set place pair r is d =
+      let (low, first, second) = pair_parts n place pair is in
+      let told : Decides r (Keeps rows (related n set) (place / n) (place % n)) = subst₂ (λ x y. Decides r (Keeps rows (related n set) x y)) first second d in
       same_from_decides r (kept rows bounded (related n set) (place / n) (place % n)) told (kept_decides rows bounded (related n set) (place / n) (place % n)) ∙ sym (asks_in (member set) place low)
 
   module _ (S T : ℕ → Bool) (narrowed : Narrowed (asks rows bounded) S T) where
@@ -109,10 +123,6 @@ module _ (rows : List Row) (bounded : Bounded rows) where
         (λ e. e ∙ sym (narrowed.within k e))
         (λ ne. ⊎_elim (λ on. absurd (both_ways (T k) ne (narrowed.largest (alone S k) (λ j m. (and_parts (eqb j k) (S j) m).1) (λ j m. let same = eqb-true j k (and_parts (eqb j k) (S j) m).0 in asks_out (alone S k) j (omega arith)) k (and_from _ _ (eq-eqb k k refl) on)))) (λ off. ne ∙ sym off) (cases_Bool (S k)))
         (cases_Bool (T k))
-
--- a place below n² has a pair of numbers that are small
-pub place_small : (n place : ℕ) → 0 < n → n ≤ max_rows → place < n * n → place / n < max_rows
-place_small n place some few h = let low = div_below place n n some h in omega arith
 
 pub square_small : (n : ℕ) → n ≤ max_rows → n * n ≤ max_rows * max_rows
 square_small n few = mul-le n n max_rows max_rows few few

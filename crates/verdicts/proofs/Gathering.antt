@@ -2,7 +2,7 @@
 use Rattle.std.proofs.Common.{◌≡◌, ℕ, ◌+◌, ◌*◌, ◌/◌, ◌%◌, ◌<◌, ◌≤◌, Bool, true, false, ◌&&◌, ◌||◌, eqb, ltb, ◌≢◌, List, length, get_or, replicate, sym, refl, ap, ◌∙◌, subst, ⊎_elim, arith}
 use lib.Bits.{bit_and}
 use lib.ListN.{length-replicate}
-use Rattle.std.proofs.lemmas.Bool.{cases_eq, cases_lt, eq-eqb, ne_eqb, lt-ltb, le-ltb, and_from, and_left, and_right}
+use Rattle.std.proofs.lemmas.Bool.{cases_eq, cases_lt, eq-eqb, ne_eqb, lt-ltb, le-ltb, and_from, and_left}
 use Rattle.sets.specs.Sets.{bit, member, word, top}
 use Rattle.sets.proofs.Membership.{member_at, member_past}
 use Rattle.sets.proofs.Words.{bit_of_and}
@@ -33,21 +33,12 @@ module _ (most : ℕ) (pick : ℕ → Bool) where
       (λ other. ap (λ b. b || (ltb j i && pick j)) (ne_eqb j i other) ∙ ap (λ b. b && pick j) (ltb_step j i other))
       (cases_eq j i)
 
-  past_more : (j i : ℕ) → pick i ≡ false → (ltb j i && pick j) ≡ (ltb j (i + 1) && pick j)
-  past_more j i h = ⊎_elim
-      (λ same. let none : pick j ≡ false = subst (λ x. pick x ≡ false) (sym same) h in and_right (ltb j i) (pick j) none ∙ sym (and_right (ltb j (i + 1)) (pick j) none))
-      (λ other. ap (λ b. b && pick j) (ltb_step j i other))
-      (cases_eq j i)
-
   pub gathered_put : (cells new : List ℕ) (i : ℕ) → i < most → most ≤ top → Gathered cells i → pick i ≡ true → length new ≡ length cells →
       (i < word * length cells → i < top → (j : ℕ) → member new j ≡ (eqb j i || member cells j)) → Gathered new (i + 1)
   gathered_put cells new i h low g on same put = record {
     room = let r = g.room in omega arith;
     has = λ j. put (let r = g.room in omega arith) (omega arith) j ∙ ap (λ b. eqb j i || b) (g.has j) ∙ put_more j i on;
   }
-
-  pub gathered_past : (cells : List ℕ) (i : ℕ) → Gathered cells i → pick i ≡ false → Gathered cells (i + 1)
-  gathered_past cells i g off = record { room = g.room; has = λ j. g.has j ∙ past_more j i off }
 
 -- where every place is picked, all places before i are there
 pub gathered_whole : (most : ℕ) (cells : List ℕ) (i : ℕ) → Gathered most (λ _. true) cells i → (j : ℕ) → member cells j ≡ ltb j i

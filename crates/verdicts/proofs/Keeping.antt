@@ -1,5 +1,5 @@
 -- The tests together tell whether a pair keeps the rules. Assumes nothing.
-use Rattle.std.proofs.Common.{◌≡◌, ℕ, ◌<◌, ◌≤◌, true, false, not, ◌&&◌, ◌||◌, ltb, List, get_or, Some, None, Decides, Option, sym, refl, ap, ◌∙◌, subst, ⊎_elim, arith}
+use Rattle.std.proofs.Common.{◌≡◌, ℕ, ◌<◌, ◌≤◌, Bool, true, false, cond, not, ◌&&◌, ◌||◌, ltb, List, get_or, Some, None, Decides, Option, sym, refl, ap, ◌∙◌, subst, ⊎_elim, arith}
 use Rattle.std.specs.List.{slice_get}
 use Rattle.std.proofs.lemmas.Bool.{both_ways, cases_Bool, and_parts, and_from, or_cases, or_left, or_right, lt-ltb, le-ltb, not-true, not_from_false, cases_lt, cases_eq, cond-true, cond-false}
 use Rattle.sets.specs.Sets.{bit}
@@ -18,9 +18,9 @@ use Rattle.schema.specs.Rules.{OffersVoid, OffersChannel, OffersElement, ◌⊑�
 use Rattle.schema.specs.Rules.◌⊑◌.{same, both}
 use Rattle.schema.proofs.Offered.{offering_below}
 use Rattle.verdicts.specs.Facts.{ready_of, determined_of}
-use Rattle.verdicts.specs.Reading.{LabelledBy}
+use Rattle.verdicts.specs.Reading.{LabelledBy, ChannelTaken}
 use Rattle.verdicts.specs.Ready.{in_row, labels_in}
-use Rattle.verdicts.specs.Tests.{capable, takes, meeting, agrees_at, agrees, labels_at, RowTaken}
+use Rattle.verdicts.specs.Tests.{capable, takes, meeting, agrees_at, agrees}
 use Rattle.verdicts.specs.declared.prepared.Prepared.{Prepared}
 
 module _ (R : Relation) where
@@ -99,35 +99,54 @@ module _ (t : Prepared) where
           (record { number = e; offered = offers; is = is; inhabited = inh })
           (record { number = f; offered = offers'; is = is'; inhabited = inh' }) x b b')))
 
-  pub labels_tell : (p x : ℕ) → Decides (belongs x (labels_at t.labels p)) (LabelledBy rows p x)
-  labels_tell p x = ⊎_elim low high (cases_lt p max_rows)
-    where
-      low : p < max_rows → Decides (belongs x (labels_at t.labels p)) (LabelledBy rows p x)
-      low h =
-          let at : labels_at t.labels p ≡ get_or t.labels p 0 = cond-true (ltb p max_rows) (get_or t.labels p 0) 0 (lt-ltb p max_rows h) in (
-            λ b.
-                let (e, m, has) = ((ready_of t).given p h x).0 (subst (λ w. belongs x w ≡ true) at b) in
-                let (offers, inh, of) = ((ready_of t).parts p e).0 m in
-                let (l, i, n, is) = of in
-                (l, i, n, record { number = e; offered = offers; is = is; inhabited = inh }, subst (λ w. belongs x w ≡ true) (ap labels_in is) has),
-            λ (l, i, n, e, b). subst (λ w. belongs x w ≡ true) (sym at) (((ready_of t).given p h x).1 (e.number, element_in p e, subst (λ w. belongs x w ≡ true) (sym (ap labels_in e.is)) b)),
-          )
+  labels_here : (p x w : ℕ) → p < max_rows → w ≡ get_or t.labels p 0 → Decides (belongs x w) (LabelledBy rows p x)
+  labels_here p x w h here = (
+    λ b.
+        let (e, m, has) = ((ready_of t).given p h x).0 (subst (λ y. belongs x y ≡ true) here b) in
+        let (offers, inh, of) = ((ready_of t).parts p e).0 m in
+        let (l, i, n, is) = of in
+        (l, i, n, record { number = e; offered = offers; is = is; inhabited = inh }, subst (λ y. belongs x y ≡ true) (ap labels_in is) has),
+    λ (l, i, n, e, b). subst (λ y. belongs x y ≡ true) (sym here) (((ready_of t).given p h x).1 (e.number, element_in p e, subst (λ y. belongs x y ≡ true) (sym (ap labels_in e.is)) b)),
+  )
 
-      high : max_rows ≤ p → Decides (belongs x (labels_at t.labels p)) (LabelledBy rows p x)
-      high h = (
-        λ b. absurd (both_ways (bit 0 x) (bit_zero x) (subst (λ w. belongs x w ≡ true) (cond-false (ltb p max_rows) (get_or t.labels p 0) 0 (le-ltb p max_rows h)) b)),
-        λ (l, i, n, e, b). absurd (omega (arith, offering_below rows e.offered, (buffer_laws t.table).few)),
-      )
+  labels_past : (p x w : ℕ) → max_rows ≤ p → w ≡ 0 → Decides (belongs x w) (LabelledBy rows p x)
+  labels_past p x w h here = (
+    λ b. absurd (both_ways (bit 0 x) (bit_zero x) (subst (λ y. belongs x y ≡ true) here b)),
+    λ (l, i, n, e, b). absurd (omega (arith, offering_below rows e.offered, (buffer_laws t.table).few)),
+  )
+
+  pub labels_tell : (p w : ℕ) → w ≡ cond (ltb p max_rows) (get_or t.labels p 0) 0 → (x : ℕ) → Decides (belongs x w) (LabelledBy rows p x)
+  labels_tell p w is x = ⊎_elim
+      (λ h. labels_here p x w h (is ∙ cond-true (ltb p max_rows) (get_or t.labels p 0) 0 (lt-ltb p max_rows h)))
+      (λ h. labels_past p x w h (is ∙ cond-false (ltb p max_rows) (get_or t.labels p 0) 0 (le-ltb p max_rows h)))
+      (cases_lt p max_rows)
+
+  -- row q offers a channel row that takes row c, which is a channel row
+  pub taken_tells : (R : Relation) (c q s : ℕ) (k : Capability) (b : Bool) → slice_get rows c ≡ Some (Channel k s) →
+      Decides b ((d : ℕ) × (in_row t.channels q d ≡ true) × (takes R k s (slice_get rows d) ≡ true)) → Decides b (ChannelTaken rows R c q)
+  taken_tells R c q s k b is tells = (
+    λ e k₁ s₁ is₁.
+        let (d, m, h) = tells.0 e in
+        let one : Some (Channel k s) ≡ Some (Channel k₁ s₁) = sym is ∙ is₁ in
+        let (k', u, at, o, pay) = takes_tells R rows k s d h in
+        let own : OffersChannel rows q k' u = record { number = d; offered = (((ready_of t).addresses q d).0 m).0; is = at } in
+        let same_k : k ≡ k₁ = cc in
+        let same_s : s ≡ s₁ = cc in
+        (k', u, own, subst (λ x. x ⊑ k') same_k o, subst (λ x. Payloads R k' x u) same_s pay),
+    λ taken.
+        let (k', u, d, o, pay) = taken k s is in
+        tells.1 (d.number, channel_in q d, ap (takes R k s) d.is ∙ (capable_tells R k k' s u).1 (o, pay)),
+  )
 
   module _ (R : Relation) (p q : ℕ) where
     abbrev Voids : Type 0
-    Voids = ((o : ℕ) × (in_row t.voids p o ≡ true)) → (o : ℕ) × (in_row t.voids q o ≡ true)
+    Voids = OffersVoid rows p → OffersVoid rows q
 
     abbrev Covers : Type 0
-    Covers = (x : ℕ) → belongs x (labels_at t.labels p) ≡ true → belongs x (labels_at t.labels q) ≡ true
+    Covers = (x : ℕ) → LabelledBy rows p x → LabelledBy rows q x
 
     abbrev Taken : Type 0
-    Taken = (c : ℕ) → in_row t.channels p c ≡ true → RowTaken rows R (in_row t.channels q) c
+    Taken = (c : ℕ) → in_row t.channels p c ≡ true → ChannelTaken rows R c q
 
     abbrev Agree : Type 0
     Agree = (e : ℕ) → in_row t.elements p e ≡ true → (f : ℕ) → in_row t.elements q f ≡ true → agrees R (slice_get rows e) (slice_get rows f) ≡ true
@@ -135,26 +154,18 @@ module _ (t : Prepared) where
     pub keeps_from : Voids → Covers → Taken → Agree → Keeps rows R p q
     unfolding Parts
     keeps_from voids covers taken agree = record {
-      voids = λ v. void_out q (voids (void_in p v));
-      channels = λ {k} {s} c.
-          let (d, m, h) = taken c.number (channel_in p c) k s c.is in
-          let (k', u, is, o, pay) = takes_tells R rows k s d h in
-          (k', u, record { number = d; offered = (((ready_of t).addresses q d).0 m).0; is = is }, o, pay);
-      covers = λ {l} {i} {n} e x b. (labels_tell q x).0 (covers x ((labels_tell p x).1 (l, i, n, e, b)));
+      voids = voids;
+      channels = λ {k} {s} c. taken c.number (channel_in p c) k s c.is;
+      covers = λ {l} {i} {n} e x b. covers x (l, i, n, e, b);
       agrees = λ {l} {i} {n} {l'} {i'} {n'} e e' x b b'. (agrees_tells R rows e.number e'.number l i n l' i' n' e.is e'.is).0 (agree e.number (element_in p e) e'.number (element_in q e')) x b b';
     }
 
     module _ (keeps : Keeps rows R p q) where
-      pub keeps_voids : Voids
-      keeps_voids v = void_in q (keeps.voids (void_out p v))
-
       pub keeps_covers : Covers
-      keeps_covers x b = let (l, i, n, e, has) = (labels_tell p x).0 b in (labels_tell q x).1 (keeps.covers e x has)
+      keeps_covers x (l, i, n, e, has) = keeps.covers e x has
 
       pub keeps_taken : Taken
-      keeps_taken c m k s is =
-          let (k', u, d, o, pay) = keeps.channels (record { number = c; offered = (((ready_of t).addresses p c).0 m).0; is = is }) in
-          (d.number, channel_in q d, ap (takes R k s) d.is ∙ (capable_tells R k k' s u).1 (o, pay))
+      keeps_taken c m k s is = keeps.channels (record { number = c; offered = (((ready_of t).addresses p c).0 m).0; is = is })
 
       pub keeps_agree : Agree
       unfolding Parts

@@ -1,10 +1,8 @@
 -- What is done when nothing is pending any more is what the pair leans on. Assumes nothing.
 use Rattle.std.proofs.Common.{◌≡◌, ℕ, ◌+◌, ◌-◌, ◌*◌, ◌/◌, ◌%◌, ◌<◌, ◌≤◌, true, false, cond, ◌||◌, eqb, ◌⊎◌, List, length, replicate, is_some, Some, Decides, Option, sym, refl, ap, ◌∙◌, subst, subst₂, inl, inr, ⊎_elim, arith}
-use lib.ListN.{length-replicate}
 use Rattle.std.proofs.lemmas.Nat.{mul-add-lt, div_below, mod_below, div-add-mod'}
 use Rattle.std.proofs.lemmas.Bool.{both_ways, cases_Bool, cases_eq, cases_lt, or_cases, or_left, or_right, or_from, eqb-true, eq-eqb, ne_eqb, cond-true, cond-false}
-use Rattle.sets.specs.Sets.{member, tally, word, top}
-use Rattle.sets.proofs.Membership.{member_within}
+use Rattle.sets.specs.Sets.{member, tally}
 use Rattle.sets.proofs.Tallies.{tally_fewer, tally_le}
 use Rattle.forms.specs.Limits.{max_rows}
 use Rattle.forms.specs.declared.Row.{Row}
@@ -14,9 +12,11 @@ use Rattle.schema.specs.Rules.Leans.{on_itself, on_named}
 use Rattle.schema.specs.Theorems.{Confined}
 use Rattle.schema.proofs.Leaning.{leans_on}
 use Rattle.schema.proofs.Order.{square_in, square_out, square_confined}
-use Rattle.verdicts.specs.Naming.{place_of, NamedFor, Noted, Pended}
-use Rattle.verdicts.specs.Pairs.{related, Leaned}
-use Rattle.verdicts.proofs.Deciding.{between_parts, between_from, place_div, place_mod}
+use Rattle.verdicts.specs.Naming.{NamedFor, Noted, Pended}
+use Rattle.verdicts.specs.Pairs.{place_of, related, Leaned}
+use Rattle.verdicts.specs.declared.prepared.leaning.Walk.{Walk}
+use Rattle.verdicts.specs.Walking.{Notes, Takes}
+use Rattle.verdicts.proofs.Deciding.{between_parts, between_from, pair_parts, place_div, place_mod, square_small}
 use Rattle.verdicts.proofs.Naming.{place_in, place_parts}
 
 module _ (rows : List Row) (starts : List ℕ) where
@@ -28,18 +28,14 @@ module _ (rows : List Row) (starts : List ℕ) where
   LeansAt k = (a b : ℕ) × (a < n) × (b < n) × (k ≡ a * n + b) × Leaned rows starts a b
 
   pub record Leaning (done pending : List ℕ) : Type 0 where
-    pub room_done : word * length done ≡ max_rows * max_rows
-    pub room_pending : word * length pending ≡ max_rows * max_rows
     pub sound_done : (k : ℕ) → member done k ≡ true → LeansAt k
     pub sound_pending : (k : ℕ) → k < n * n → member pending k ≡ true → LeansAt k
     pub apart : (k : ℕ) → member pending k ≡ true → member done k ≡ false
     pub start : (k : ℕ) → k < n * n → member starts k ≡ true → (member done k ≡ true) ⊎ (member pending k ≡ true)
     pub closed : (k j : ℕ) → member done k ≡ true → NamedFor rows (k / n) (k % n) j → (member done j ≡ true) ⊎ (member pending j ≡ true)
 
-  pub leaning_none : (m : ℕ) → word * m ≡ max_rows * max_rows → word * length starts ≡ max_rows * max_rows → 0 < length rows → Leaning (replicate m 0) starts
-  leaning_none m e room some = record {
-    room_done = omega (arith, length-replicate {A = ℕ} m 0);
-    room_pending = room;
+  pub leaning_none : (m : ℕ) → 0 < length rows → Leaning (replicate m 0) starts
+  leaning_none m some = record {
     sound_done = λ k on. absurd (both_ways _ (zeros_none m k) on);
     sound_pending = λ k low on.
         let a< = div_below k n n some low in
@@ -50,17 +46,10 @@ module _ (rows : List Row) (starts : List ℕ) where
     closed = λ k j on. absurd (both_ways _ (zeros_none m k) on);
   }
 
-  module _ (done pending done' rest pending' : List ℕ) (k : ℕ) (l : Leaning done pending) (low : k < length rows * length rows) (there : member pending k ≡ true)
-      (same-done : length done' ≡ length done) (same_rest : length rest ≡ length pending) (same-pending : length pending' ≡ length rest)
+  module _ (done pending done' rest pending' : List ℕ) (k : ℕ) (l : Leaning done pending) (low : k < length rows * length rows) (small : k < max_rows * max_rows) (there : member pending k ≡ true)
       (removed : (j : ℕ) → member rest j ≡ cond (eqb j k) false (member pending j))
-      (put : k < word * length done → k < top → (j : ℕ) → member done' j ≡ (eqb j k || member done j))
+      (in_done : (j : ℕ) → member done' j ≡ (eqb j k || member done j))
       (pended : Pended (NamedFor rows (k / length rows) (k % length rows)) done' rest pending') where
-    small : k < max_rows * max_rows
-    small = let (h, _) = member_within pending k there in let r = l.room_pending in omega arith
-
-    in_done : (j : ℕ) → member done' j ≡ (eqb j k || member done j)
-    in_done = put (let r = l.room_done in let h = small in omega arith) (let h = small in omega arith)
-
     more_done : (j : ℕ) → member done j ≡ true → member done' j ≡ true
     more_done j on = in_done j ∙ or_right (eqb j k) (member done j) on
 
@@ -92,10 +81,8 @@ module _ (rows : List Row) (starts : List ℕ) where
         let at_b : k % n ≡ b = ap (λ x. x % n) is ∙ place_mod n a b b< in
         (c, d, h, g, e, (p, q, from, leans_on leans (subst₂ (λ x y. Names rows x y c d) at_a at_b named)))
 
-    pub leaning_more : Leaning done' pending'
+    leaning_more : Leaning done' pending'
     leaning_more = record {
-      room_done = let r = l.room_done in omega arith;
-      room_pending = let r = l.room_pending in omega arith;
       sound_done = λ j on. ⊎_elim (λ same. subst LeansAt (sym same) (l.sound_pending k low there)) (l.sound_done j) (from_done j on);
       sound_pending = λ j h on. ⊎_elim (λ old. l.sound_pending j h (was j old).0) (λ (named, _). named_leans j named) (pended.from j on);
       apart = λ j on. ⊎_elim (λ old. let (before, other) = was j old in in_done j ∙ or_from (eqb j k) (member done j) other (l.apart j before)) (λ (_, off). off) (pended.from j on);
@@ -106,11 +93,34 @@ module _ (rows : List Row) (starts : List ℕ) where
           (from_done i on);
     }
 
-    pub leaning_less : (m : ℕ) → m ≡ max_rows * max_rows → m - tally (member done') m < m - tally (member done) m
+    leaning_less : (m : ℕ) → m ≡ max_rows * max_rows → m - tally (member done') m < m - tally (member done) m
     leaning_less m e =
-        let fewer = tally_fewer (member done) (member done') more_done k m (let h = small in omega arith) now_done (l.apart k there) in
+        let fewer = tally_fewer (member done) (member done') more_done k m (omega arith) now_done (l.apart k there) in
         let most = tally_le (member done') m in
         omega arith
+
+  -- one step of the walk: a pair is taken, and what the rules name for it is noted
+  module _ (few : length rows ≤ max_rows) (old taken new : Walk) (pair : ℕ × ℕ) (l : Leaning old.done old.pending) (takes : Takes (length rows) pair old taken) (notes : Notes (NamedFor rows pair.0 pair.1) taken new) where
+    parts : (takes.place < n * n) × (pair.0 ≡ takes.place / n) × (pair.1 ≡ takes.place % n)
+    parts = pair_parts n takes.place pair takes.is
+
+    small : takes.place < max_rows * max_rows
+    small = let (low, _, _) = parts in let room = square_small n few in omega arith
+
+    in_done : (j : ℕ) → member new.done j ≡ (eqb j takes.place || member old.done j)
+    in_done j = ap (λ d. member d j) notes.done ∙ takes.put j
+
+    pended : Pended (NamedFor rows (takes.place / n) (takes.place % n)) new.done taken.pending new.pending
+    pended =
+        let (_, first, second) = parts in
+        subst (λ d. Pended (NamedFor rows (takes.place / n) (takes.place % n)) d taken.pending new.pending) (sym notes.done)
+        (subst₂ (λ x y. Pended (NamedFor rows x y) taken.done taken.pending new.pending) first second notes.pended)
+
+    pub walk_more : Leaning new.done new.pending
+    walk_more = leaning_more old.done old.pending new.done taken.pending new.pending takes.place l parts.0 small takes.there takes.rest in_done pended
+
+    pub walk_less : (m : ℕ) → m ≡ max_rows * max_rows → m - tally (member new.done) m < m - tally (member old.done) m
+    walk_less = leaning_less old.done old.pending new.done taken.pending new.pending takes.place l parts.0 small takes.there takes.rest in_done pended
 
   module _ (bounded : Bounded rows) (done pending : List ℕ) (l : Leaning done pending) (none : (j : ℕ) → j < length rows * length rows → member pending j ≡ false) where
     leans_sound : (a b : ℕ) → related n done a b ≡ true → Leaned rows starts a b
@@ -151,12 +161,10 @@ module _ (rows : List Row) (starts : List ℕ) where
         (cases_Bool (member done k))
 
 -- the walk so far: what is leaned on, and which rows were gone through against which sets
-pub record Walking (rows : List Row) (channels elements starts done pending links parts : List ℕ) : Type 0 where
-  pub leaning : Leaning rows starts done pending
-  pub room_links : word * length links ≡ max_rows * max_rows
-  pub room_parts : word * length parts ≡ max_rows * max_rows
-  pub linked : Noted rows channels links done pending
-  pub parted : Noted rows elements parts done pending
+pub record Walking (rows : List Row) (channels elements starts links parts : List ℕ) (walk : Walk) : Type 0 where
+  pub leaning : Leaning rows starts walk.done walk.pending
+  pub linked : Noted rows channels links walk.done walk.pending
+  pub parted : Noted rows elements parts walk.done walk.pending
 
 -- the place of a pair alone, as a set
 pub alone_put : (place : Option ℕ) (m k : ℕ) (new : List ℕ) → place ≡ Some k → ((j : ℕ) → member new j ≡ (eqb j k || member (replicate m 0) j)) → (j : ℕ) → Decides (member new j) (place ≡ Some j)

@@ -12,7 +12,8 @@ use Rattle.schema.specs.Rules.◌⊑◌.{same, both}
 use Rattle.schema.specs.Rules.Names.{receives, sends, inside, following}
 use Rattle.schema.proofs.Findings.{never}
 use Rattle.verdicts.specs.Facts.{ready_of}
-use Rattle.verdicts.specs.Naming.{Two, neither, names_of_payloads, names_by_channel, names_by_element, named_by, place_of, NamedAmong, NamedFor}
+use Rattle.verdicts.specs.Naming.{Two, neither, names_of_payloads, names_by_channel, names_by_element, named_by, NamedAmong, NamedFor}
+use Rattle.verdicts.specs.Pairs.{place_of}
 use Rattle.verdicts.specs.Ready.{in_row}
 use Rattle.verdicts.specs.Tests.{meeting}
 use Rattle.verdicts.specs.declared.prepared.Prepared.{Prepared}

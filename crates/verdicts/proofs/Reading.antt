@@ -1,18 +1,14 @@
 -- What is read off the sets of a prepared table. Assumes nothing.
-use Rattle.std.proofs.Common.{◌≡◌, ℕ, Bool, true, List, Decides, sym, ap, ◌∙◌, subst}
+use Rattle.std.proofs.Common.{◌≡◌, ℕ, Bool, List, Decides, sym, subst}
 use Rattle.forms.specs.Buffers.{rows_of}
 use Rattle.forms.specs.Schema.{Offers, Inhabited, IsChannel}
 use Rattle.forms.specs.Schema.Inhabited.{of_channel}
 use Rattle.forms.specs.declared.Row.{Row}
-use Rattle.schema.specs.Rules.{OffersVoid, Relation}
 use Rattle.verdicts.specs.Facts.{ready_of}
-use Rattle.verdicts.specs.Reading.{ChannelTaken}
 use Rattle.verdicts.specs.Ready.{in_row, IsElement}
-use Rattle.verdicts.specs.Tests.{takes, RowTaken}
 use Rattle.verdicts.specs.RowSets.{row_set}
 use Rattle.verdicts.specs.declared.prepared.Prepared.{Prepared}
 use Rattle.verdicts.specs.declared.rowsets.RowSet.{RowSet}
-use Rattle.verdicts.proofs.Keeping.{void_in, void_out, channel_in, capable_tells, takes_tells}
 
 decides_same : {P Q : Type 0} (b : Bool) → (P → Q) → (Q → P) → Decides b P → Decides b Q
 decides_same b there back d = (λ e. there (d.0 e), λ q. d.1 (back q))
@@ -20,9 +16,6 @@ decides_same b there back d = (λ e. there (d.0 e), λ q. d.1 (back q))
 module _ (t : Prepared) where
   abbrev rows : List Row
   rows = rows_of t.table
-
-  pub void_tells : (p : ℕ) (b : Bool) → Decides b ((o : ℕ) × (in_row t.voids p o ≡ true)) → Decides b (OffersVoid rows p)
-  void_tells p b = decides_same b (void_out t p) (void_in t p)
 
   pub channel_set : (p : ℕ) (s : RowSet) → ((o : ℕ) → row_set s o ≡ in_row t.channels p o) → (c : ℕ) → Decides (row_set s c) (Offers rows p c × IsChannel rows c)
   channel_set p s is c = subst (λ b. Decides b (Offers rows p c × IsChannel rows c)) (sym (is c)) (decides_same (in_row t.channels p c)
@@ -32,13 +25,3 @@ module _ (t : Prepared) where
 
   pub element_set : (p : ℕ) (s : RowSet) → ((o : ℕ) → row_set s o ≡ in_row t.elements p o) → (e : ℕ) → Decides (row_set s e) (Offers rows p e × Inhabited rows e × IsElement rows e)
   element_set p s is e = subst (λ b. Decides b (Offers rows p e × Inhabited rows e × IsElement rows e)) (sym (is e)) ((ready_of t).parts p e)
-
-  pub channel_tells : (R : Relation) (c q : ℕ) (b : Bool) → Decides b (RowTaken rows R (in_row t.channels q) c) → Decides b (ChannelTaken rows R c q)
-  channel_tells R c q b = decides_same b
-      (λ taken k s is.
-      let (d, m, h) = taken k s is in
-      let (k', u, is', o, pay) = takes_tells R rows k s d h in
-      (k', u, record { number = d; offered = (((ready_of t).addresses q d).0 m).0; is = is' }, o, pay))
-      (λ taken k s is.
-      let (k', u, d, o, pay) = taken k s is in
-      (d.number, channel_in t q d, ap (takes R k s) d.is ∙ (capable_tells R k k' s u).1 (o, pay)))

@@ -72,9 +72,6 @@ module _ (f : ℕ → Bool) where
     abbrev pub Passed : ℕ → Type 0
     Passed from = (e : ℕ) → e < from → f e ≡ true → P e
 
-    pub passed_none : Passed 0
-    passed_none e h = absurd (omega arith)
-
     pub passed_more : (from o : ℕ) → Found from o → Passed from → P o → Passed (o + 1)
     passed_more from o found passed here e h m = ⊎_elim (λ less. passed e less m) (λ same. subst P (sym same) here) (walk_split from o found e h m)
 

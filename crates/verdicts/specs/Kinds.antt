@@ -2,8 +2,6 @@
 use Rattle.std.specs.Prelude.{Bool, true, false, Some, None, Option}
 use Rattle.forms.specs.declared.Row.{Row}
 use Rattle.forms.specs.declared.Row.TheVariants.{Void, Nothing, Channel, Element, Union}
-use Rattle.verdicts.specs.declared.kinds.Kind.{Kind}
-use Rattle.verdicts.specs.declared.kinds.Kind.TheVariants.{OfVoid, OfChannel, OfElement}
 
 abbrev pub void_row : Option Row → Bool
 void_row None = false
@@ -28,9 +26,3 @@ element_row (Some Nothing) = false
 element_row (Some (Channel k s)) = false
 element_row (Some (Element l i n)) = true
 element_row (Some (Union l r)) = false
-
--- the row is of that sort
-abbrev pub kind_is : Kind → Option Row → Bool
-kind_is OfVoid row = void_row row
-kind_is OfChannel row = channel_row row
-kind_is OfElement row = element_row row

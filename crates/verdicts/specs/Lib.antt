@@ -10,3 +10,5 @@ pub mod Naming
 pub mod Reading
 pub mod RowSets
 pub mod Tables
+pub mod Walking
+pub mod Within

@@ -1,5 +1,5 @@
 -- The pairs that the rules name for two rows, as tests, and what is pending after they were noted. Assumes nothing.
-use Rattle.std.specs.Prelude.{◌≡◌, ℕ, ◌+◌, ◌*◌, ◌<◌, Bool, true, false, cond, ◌&&◌, ◌⊎◌, List, length, Some, None, Option, nat_lt}
+use Rattle.std.specs.Prelude.{◌≡◌, ℕ, ◌+◌, ◌*◌, ◌<◌, Bool, true, false, cond, ◌⊎◌, List, length, Some, None, Option}
 use Rattle.std.specs.List.{slice_get}
 use Rattle.sets.specs.Sets.{member}
 use Rattle.forms.specs.declared.Row.{Row}
@@ -7,6 +7,7 @@ use Rattle.forms.specs.declared.Row.TheVariants.{Void, Nothing, Channel, Element
 use Rattle.forms.specs.declared.Capability.{Capability}
 use Rattle.forms.specs.declared.Capability.TheVariants.{In, Out, Both}
 use Rattle.schema.specs.Rules.{Names}
+use Rattle.verdicts.specs.Pairs.{place_of}
 use Rattle.verdicts.specs.Ready.{in_row}
 use Rattle.verdicts.specs.Tests.{meeting}
 
@@ -52,11 +53,6 @@ named_by (Some Nothing) other = neither
 named_by (Some (Channel k s)) other = names_by_channel k s other
 named_by (Some (Element l i n)) other = names_by_element l i n other
 named_by (Some (Union l r)) other = neither
-
--- the place of a pair of n rows
-abbrev pub place_of : ℕ → Option (ℕ × ℕ) → Option ℕ
-place_of n None = None
-place_of n (Some pair) = cond (nat_lt pair.0 n && nat_lt pair.1 n) (Some (pair.0 * n + pair.1)) None
 
 -- the rules name the pair at place k for two rows
 abbrev pub NamedAt : ℕ → Option Row → Option Row → ℕ → Type 0

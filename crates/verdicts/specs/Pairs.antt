@@ -1,9 +1,18 @@
 -- Relations between the rows of a table, as sets of places: the pair (p, q) of n rows has the place p n + q. Assumes nothing.
-use Rattle.std.specs.Prelude.{◌≡◌, ℕ, ◌+◌, ◌*◌, ◌<◌, Bool, true, false, ◌&&◌, List, length, Decides, nat_lt}
+use Rattle.std.specs.Prelude.{◌≡◌, ℕ, ◌+◌, ◌*◌, ◌/◌, ◌%◌, ◌<◌, Bool, true, false, cond, ◌&&◌, List, length, Some, None, Option, Decides, nat_lt}
 use Rattle.sets.specs.Sets.{member}
 use Rattle.forms.specs.declared.Row.{Row}
 use Rattle.schema.specs.Rules.{Relation, Leans}
 use Rattle.schema.specs.Theorems.{Witness}
+
+-- the place of a pair of n rows
+abbrev pub place_of : ℕ → Option (ℕ × ℕ) → Option ℕ
+place_of n None = None
+place_of n (Some pair) = cond (nat_lt pair.0 n && nat_lt pair.1 n) (Some (pair.0 * n + pair.1)) None
+
+-- the pair of n rows that has place k
+abbrev pub pair_of : ℕ → ℕ → Option (ℕ × ℕ)
+pair_of n k = cond (nat_lt k (n * n)) (Some (k / n, k % n)) None
 
 -- the relation that a set of places means
 abbrev pub between : ℕ → (ℕ → Bool) → Relation

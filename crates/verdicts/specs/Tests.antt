@@ -1,7 +1,5 @@
 -- The tests by which the rules are decided, row against row. Assumes nothing.
-use Rattle.std.specs.Prelude.{◌≡◌, ℕ, Bool, true, false, cond, not, ◌&&◌, ◌||◌, List, Some, None, Option, ◌==◌, bit_and, nat_lt, slice_index}
-use Rattle.std.specs.List.{slice_get}
-use Rattle.forms.specs.Limits.{max_rows}
+use Rattle.std.specs.Prelude.{ℕ, Bool, true, false, not, ◌&&◌, ◌||◌, Some, None, Option, ◌==◌, bit_and}
 use Rattle.forms.specs.declared.Row.{Row}
 use Rattle.forms.specs.declared.Row.TheVariants.{Void, Nothing, Channel, Element, Union}
 use Rattle.forms.specs.declared.Capability.{Capability}
@@ -50,10 +48,7 @@ agrees R (Some (Channel k s)) other = true
 agrees R (Some (Element l i n)) other = agrees_at R l i n other
 agrees R (Some (Union l r)) other = true
 
--- the labels that are kept for row p
-abbrev pub labels_at : List ℕ → ℕ → ℕ
-labels_at labels p = cond (nat_lt p max_rows) (slice_index labels p) 0
-
--- if row c is a channel row, one of the rows in the set takes it
-abbrev pub RowTaken : List Row → Relation → (ℕ → Bool) → ℕ → Type 0
-RowTaken rows R set c = (k : Capability) (s : ℕ) → slice_get rows c ≡ Some (Channel k s) → (d : ℕ) × (set d ≡ true) × (takes R k s (slice_get rows d) ≡ true)
+-- the relation has the pair, if there is one
+abbrev pub related_if : Relation → Option (ℕ × ℕ) → Bool
+related_if R None = true
+related_if R (Some pair) = R pair.0 pair.1

@@ -1,24 +1,26 @@
 // The sorts of rows that the rules speak of.
 ghost use Rattle.std.specs.Prelude.{◌≡◌};
-ghost use Rattle.verdicts.specs.Kinds.{kind_is};
+ghost use Rattle.verdicts.specs.Kinds.{void_row, channel_row, element_row};
 
 use forms::Row;
 
-#[derive(Clone, Copy)]
-pub(crate) enum Kind {
-    OfVoid,
-    OfChannel,
-    OfElement,
+// Whether it is a void row.
+pub(crate) fn is_void(row: Option<Row>) -> bool
+    ensures { result ≡ void_row row }
+{
+    matches!(row, Some(Row::Void))
 }
 
-// Whether it is a row of that sort.
-pub(crate) fn is_kind(kind: Kind, row: Option<Row>) -> bool
-    ensures { result ≡ kind_is kind row }
+// Whether it is a channel row.
+pub(crate) fn is_channel(row: Option<Row>) -> bool
+    ensures { result ≡ channel_row row }
 {
-    matches!(
-        (kind, row),
-        (Kind::OfVoid, Some(Row::Void))
-            | (Kind::OfChannel, Some(Row::Channel(_, _)))
-            | (Kind::OfElement, Some(Row::Element { .. }))
-    )
+    matches!(row, Some(Row::Channel(_, _)))
+}
+
+// Whether it is an element row.
+pub(crate) fn is_element(row: Option<Row>) -> bool
+    ensures { result ≡ element_row row }
+{
+    matches!(row, Some(Row::Element { .. }))
 }

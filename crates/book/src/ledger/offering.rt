@@ -44,14 +44,13 @@ impl Ledger {
 
     // The lowest pair of a relation that breaks the rules within it.
     fn breaking(&self, relation: &[u64]) -> Option<(u8, u8)>
-        requires { (k : ℕ) → length (ledger_rows self.now) * length (ledger_rows self.now) ≤ k → member relation.now k ≡ false }
         ensures { MatchOption result (Closed (ledger_rows self.now) (related (length (ledger_rows self.now)) relation.now)) (λ pair. Breaks (ledger_rows self.now) relation.now pair.0 pair.1) }
     {
-        let n = self.prepared.count();
         for k in Members::of(relation) {
-            let pair = ((k / n) as u8, (k % n) as u8);
-            if !self.prepared.keeps(pair, relation) {
-                return Some(pair);
+            if let Some(pair) = self.prepared.pair_at(k) {
+                if !self.prepared.keeps(pair, relation) {
+                    return Some(pair);
+                }
             }
         }
         None

@@ -219,6 +219,7 @@ impl Drawn {
         if !open(question.leaned, question.below, n, k) {
             return None;
         }
-        self.tell(question, (k / n) as u8, (k % n) as u8)
+        let (p, q) = question.prepared.pair_at(k)?;
+        self.tell(question, p, q)
     }
 }

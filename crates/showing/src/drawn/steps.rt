@@ -67,6 +67,7 @@ impl Drawn {
 }
 
 // Makes nodes until the pair has one, which is then the last.
+// As it is: the place is written out, since the pair is one of rows, and an `Option` would have a case that does not come.
 pub(crate) fn draw(question: &Question, pair: (u8, u8), nodes: &mut [Node]) -> usize
     requires asked { Asked (rows_asked question.now) (leaned_in question.now) (below_in question.now) }
     requires leans { (leaned_in question.now) pair.0 pair.1 ≡ true }

@@ -31,12 +31,10 @@ impl<'a> Rule for Keeping<'a> {
     ghost lawful = { λ s. asks_lawful (rows_in s.prepared.now) (bounded_of s.prepared.now) };
 
     fn ask(&self, place: usize, set: &[u64]) -> bool {
-        let n = self.prepared.count();
-        if place >= n * n {
-            return true;
+        match self.prepared.pair_at(place) {
+            Some(pair) => self.prepared.keeps(pair, set),
+            None => true,
         }
-        self.prepared
-            .keeps(((place / n) as u8, (place % n) as u8), set)
     }
 }
 

@@ -1,25 +1,21 @@
 // Whether a pair of rows keeps the rules within a set of pairs.
-ghost use Rattle.std.specs.Prelude.{◌≡◌, ℕ, true, Decides};
+ghost use Rattle.std.specs.Prelude.{◌≡◌, ℕ, ◌<◌, ◌≤◌, true, Decides};
 ghost use Rattle.std.specs.List.{slice_get};
+ghost use Rattle.forms.specs.Limits.{max_rows};
 ghost use Rattle.forms.specs.Rows.{belongs};
-ghost use Rattle.schema.specs.Rules.{Keeps};
+ghost use Rattle.schema.specs.Rules.{OffersVoid, Keeps};
+ghost use Rattle.verdicts.specs.Reading.{LabelledBy, ChannelTaken};
 ghost use Rattle.verdicts.specs.Ready.{in_row};
-ghost use Rattle.verdicts.specs.Tests.{capable, takes, meeting, agrees_at, agrees, labels_at, RowTaken};
+ghost use Rattle.verdicts.specs.Tests.{takes, agrees_at, agrees, related_if};
 ghost use Rattle.verdicts.specs.Tables.{rows_in, count_in, related_in};
+ghost use Rattle.verdicts.specs.Within.{rows_within, relation_of};
 
 use super::super::rowsets::RowSet;
 use super::Prepared;
+use super::naming::{named_by_channel, named_by_element};
 use forms::{Capability, FormSource, MAX_ROWS, Row};
-use relation::admission::meets;
 use relation::offering::has;
 use sets;
-
-// Whether two label sets have a label in common.
-pub(crate) fn share(a: u64, b: u64) -> bool
-    ensures { result ≡ meeting a b }
-{
-    meets(a, b)
-}
 
 // Whether all labels of one set are in the other.
 fn covers(all: u64, some: u64) -> bool
@@ -28,72 +24,50 @@ fn covers(all: u64, some: u64) -> bool
     all | some == all
 }
 
-impl Prepared {
-    // How many rows there are.
-    pub fn count(&self) -> usize
-        ensures { result ≡ count_in self.now }
-    {
-        self.table.count()
-    }
+// A table, and a set of its pairs within which the rules are asked.
+#[derive(Drop)]
+struct Within<'a> {
+    prepared: &'a Prepared,
+    pairs: &'a [u64],
+}
 
+impl<'a> Within<'a> {
     // Whether the set has the pair.
-    pub fn relates(&self, pairs: &[u64], p: u8, q: u8) -> bool
-        ensures { result ≡ related_in self.now pairs.now p q }
+    fn relates(&self, p: u8, q: u8) -> bool
+        ensures { result ≡ relation_of self.now p q }
     {
-        let n = self.count();
-        (p as usize) < n && (q as usize) < n && sets::test(pairs, p as usize * n + q as usize)
+        self.prepared.relates(self.pairs, p, q)
     }
 
-    // Whether a channel is below another: payloads of in channels compare forward, those of out channels backward, and of both both ways.
-    fn channel_below(&self, pairs: &[u64], c: (Capability, u8), d: (Capability, u8)) -> bool
-        ensures { result ≡ capable c.0 d.0 (related_in self.now pairs.now c.1 d.1) (related_in self.now pairs.now d.1 c.1) }
+    // Whether the set has the pair, if there is one.
+    fn relates_named(&self, pair: Option<(u8, u8)>) -> bool
+        ensures { result ≡ related_if (relation_of self.now) pair }
     {
-        match (c.0, d.0) {
-            (Capability::In | Capability::Both, Capability::In) if self.relates(pairs, c.1, d.1) =>
-                true,
-            (Capability::Out | Capability::Both, Capability::Out)
-                if self.relates(pairs, d.1, c.1) => true,
-            (Capability::Both, Capability::Both)
-                if self.relates(pairs, c.1, d.1) && self.relates(pairs, d.1, c.1) => true,
-            _ => false,
+        match pair {
+            Some((p, q)) => self.relates(p, q),
+            None => true,
         }
     }
 
-    // Whether row d is a channel row that the channel is below.
-    fn takes(&self, pairs: &[u64], c: (Capability, u8), d: u8) -> bool
-        ensures { result ≡ takes (related_in self.now pairs.now) c.0 c.1 (slice_get (rows_in self.now) d) }
+    // Whether row d is a channel row that the channel is below: the rules name pairs for the two, all of which the set has.
+    fn takes(&self, c: (Capability, u8), d: u8) -> bool
+        ensures { result ≡ takes (relation_of self.now) c.0 c.1 (slice_get (rows_within self.now) d) }
     {
-        match self.table.row(d) {
-            Some(Row::Channel(capability, payload)) => self.channel_below(
-                pairs,
-                c,
-                (capability, payload),
-            ),
-            _ => false,
-        }
+        let (one, two) = named_by_channel(c, self.prepared.table.row(d));
+        (one.is_some() || two.is_some()) && self.relates_named(one) && self.relates_named(two)
     }
 
-    // Whether the parts of an element row are below those of row f, if that is an element row with a common label.
-    fn agrees_at(&self, pairs: &[u64], labels: u64, parts: (u8, u8), f: u8) -> bool
-        ensures { result ≡ agrees_at (related_in self.now pairs.now) labels parts.0 parts.1 (slice_get (rows_in self.now) f) }
+    // Whether the set has the pairs that the rules name for an element row and row f.
+    fn agrees_at(&self, labels: u64, parts: (u8, u8), f: u8) -> bool
+        ensures { result ≡ agrees_at (relation_of self.now) labels parts.0 parts.1 (slice_get (rows_within self.now) f) }
     {
-        match self.table.row(f) {
-            Some(
-                Row::Element {
-                    labels: other,
-                    inside,
-                    following,
-                },
-            ) => !share(labels, other)
-                || (self.relates(pairs, parts.0, inside)
-                    && self.relates(pairs, parts.1, following)),
-            _ => true,
-        }
+        let (one, two) = named_by_element(labels, parts, self.prepared.table.row(f));
+        self.relates_named(one) && self.relates_named(two)
     }
 
     // The same of two rows, of which the first is given.
-    fn agrees(&self, pairs: &[u64], row: Option<Row>, f: u8) -> bool
-        ensures { result ≡ agrees (related_in self.now pairs.now) row (slice_get (rows_in self.now) f) }
+    fn agrees(&self, row: Option<Row>, f: u8) -> bool
+        ensures { result ≡ agrees (relation_of self.now) row (slice_get (rows_within self.now) f) }
     {
         match row {
             Some(
@@ -102,107 +76,115 @@ impl Prepared {
                     inside,
                     following,
                 },
-            ) => self.agrees_at(pairs, labels, (inside, following), f),
+            ) => self.agrees_at(labels, (inside, following), f),
             _ => true,
         }
-    }
-
-    // The labels of the inhabited element rows that row p offers.
-    pub(crate) fn labels_at(&self, p: u8) -> u64
-        ensures { result ≡ labels_at self.now.labels p }
-    {
-        self.labels.get(p as usize).copied().unwrap_or(0)
-    }
-
-    // Whether row p offers a void row.
-    pub(crate) fn offers_void(&self, p: u8) -> bool
-        ensures { Decides result ((o : ℕ) × (in_row self.now.voids p o ≡ true)) }
-    {
-        RowSet::of(&self.voids, p).next().is_some()
     }
 
     // Whether row q offers a channel row that the channel is below. The likeliest is asked first.
-    fn taken(&self, pairs: &[u64], c: (Capability, u8), likely: u8, q: u8) -> bool
-        ensures { Decides result ((d : ℕ) × (in_row self.now.channels q d ≡ true) × (takes (related_in self.now pairs.now) c.0 c.1 (slice_get (rows_in self.now) d) ≡ true)) }
+    fn taken(&self, c: (Capability, u8), likely: u8, q: u8) -> bool
+        ensures { Decides result ((d : ℕ) × (in_row self.now.prepared.now.channels q d ≡ true) × (takes (relation_of self.now) c.0 c.1 (slice_get (rows_within self.now) d) ≡ true)) }
     {
-        if has(&self.channels, q as u16, likely) && self.takes(pairs, c, likely) {
+        if has(&self.prepared.channels, q as u16, likely) && self.takes(c, likely) {
             return true;
         }
-        RowSet::of(&self.channels, q).any(|d| self.takes(pairs, c, d))
-    }
-
-    // The same, of row c if it is a channel row.
-    pub(crate) fn row_taken(&self, pairs: &[u64], c: u8, q: u8) -> bool
-        ensures { Decides result (RowTaken (rows_in self.now) (related_in self.now pairs.now) (in_row self.now.channels q) c) }
-    {
-        match self.table.row(c) {
-            Some(Row::Channel(capability, payload)) => self.taken(
-                pairs,
-                (capability, payload),
-                c,
-                q,
-            ),
-            _ => true,
-        }
+        RowSet::of(&self.prepared.channels, q).any(|d| self.takes(c, d))
     }
 
     // The same, of all channel rows that row p offers.
-    fn rows_taken(&self, pairs: &[u64], p: u8, q: u8) -> bool
-        ensures { Decides result ((c : ℕ) → in_row self.now.channels p c ≡ true → RowTaken (rows_in self.now) (related_in self.now pairs.now) (in_row self.now.channels q) c) }
+    fn rows_taken(&self, p: u8, q: u8) -> bool
+        ensures { Decides result ((c : ℕ) → in_row self.now.prepared.now.channels p c ≡ true → ChannelTaken (rows_within self.now) (relation_of self.now) c q) }
     {
-        RowSet::of(&self.channels, p).all(|c| self.row_taken(pairs, c, q))
+        let (prepared, pairs) = (self.prepared, self.pairs);
+        RowSet::of(&prepared.channels, p).all(|c| prepared.takes_channel(pairs, c, q))
     }
 
     // Whether a row agrees with all inhabited element rows that row q offers.
-    fn row_agrees(&self, pairs: &[u64], row: Option<Row>, q: u8) -> bool
-        ensures { Decides result ((f : ℕ) → in_row self.now.elements q f ≡ true → agrees (related_in self.now pairs.now) row (slice_get (rows_in self.now) f) ≡ true) }
+    fn row_agrees(&self, row: Option<Row>, q: u8) -> bool
+        ensures { Decides result ((f : ℕ) → in_row self.now.prepared.now.elements q f ≡ true → agrees (relation_of self.now) row (slice_get (rows_within self.now) f) ≡ true) }
     {
-        RowSet::of(&self.elements, q).all(|f| self.agrees(pairs, row, f))
+        RowSet::of(&self.prepared.elements, q).all(|f| self.agrees(row, f))
     }
 
     // The same, of row e. If q offers it, no other that q offers has a label in common with it.
-    fn element_agrees(&self, pairs: &[u64], e: u8, q: u8) -> bool
-        ensures { Decides result ((f : ℕ) → in_row self.now.elements q f ≡ true → agrees (related_in self.now pairs.now) (slice_get (rows_in self.now) e) (slice_get (rows_in self.now) f) ≡ true) }
+    fn element_agrees(&self, e: u8, q: u8) -> bool
+        ensures { Decides result ((f : ℕ) → in_row self.now.prepared.now.elements q f ≡ true → agrees (relation_of self.now) (slice_get (rows_within self.now) e) (slice_get (rows_within self.now) f) ≡ true) }
     {
-        let row = self.table.row(e);
-        if has(&self.elements, q as u16, e) {
-            return self.agrees(pairs, row, e);
+        let row = self.prepared.table.row(e);
+        if has(&self.prepared.elements, q as u16, e) {
+            return self.agrees(row, e);
         }
-        self.row_agrees(pairs, row, q)
+        self.row_agrees(row, q)
     }
 
     // The same, of all inhabited element rows that row p offers.
-    fn rows_agree(&self, pairs: &[u64], p: u8, q: u8) -> bool
-        ensures { Decides result ((e : ℕ) → in_row self.now.elements p e ≡ true → (f : ℕ) → in_row self.now.elements q f ≡ true → agrees (related_in self.now pairs.now) (slice_get (rows_in self.now) e) (slice_get (rows_in self.now) f) ≡ true) }
+    fn rows_agree(&self, p: u8, q: u8) -> bool
+        ensures { Decides result ((e : ℕ) → in_row self.now.prepared.now.elements p e ≡ true → (f : ℕ) → in_row self.now.prepared.now.elements q f ≡ true → agrees (relation_of self.now) (slice_get (rows_within self.now) e) (slice_get (rows_within self.now) f) ≡ true) }
     {
-        RowSet::of(&self.elements, p).all(|e| self.element_agrees(pairs, e, q))
+        RowSet::of(&self.prepared.elements, p).all(|e| self.element_agrees(e, q))
+    }
+
+    // Whether row q takes all channel rows that row p offers, and agrees with the element rows.
+    fn parts_kept(&self, p: u8, q: u8) -> bool
+        ensures { Decides result (((c : ℕ) → in_row self.now.prepared.now.channels p c ≡ true → ChannelTaken (rows_within self.now) (relation_of self.now) c q) × ((e : ℕ) → in_row self.now.prepared.now.elements p e ≡ true → (f : ℕ) → in_row self.now.prepared.now.elements q f ≡ true → agrees (relation_of self.now) (slice_get (rows_within self.now) e) (slice_get (rows_within self.now) f) ≡ true)) }
+    {
+        self.rows_taken(p, q) && self.rows_agree(p, q)
+    }
+}
+
+impl Prepared {
+    // How many rows there are.
+    pub fn count(&self) -> usize
+        ensures is { result ≡ count_in self.now }
+        ensures some { 0 < result }
+        ensures few { result ≤ max_rows }
+    {
+        self.table.count()
+    }
+
+    // Whether the set has the pair.
+    pub fn relates(&self, pairs: &[u64], p: u8, q: u8) -> bool
+        ensures { result ≡ related_in self.now pairs.now p q }
+    {
+        self.place((p, q)).is_some_and(|k| sets::test(pairs, k))
+    }
+
+    // Whether row q offers a channel row that row c, if it is a channel row, is below within the set of pairs.
+    pub fn takes_channel(&self, pairs: &[u64], c: u8, q: u8) -> bool
+        ensures { Decides result (ChannelTaken (rows_in self.now) (related_in self.now pairs.now) c q) }
+    {
+        let within = Within {
+            prepared: self,
+            pairs,
+        };
+        match self.table.row(c) {
+            Some(Row::Channel(capability, payload)) => within.taken((capability, payload), c, q),
+            _ => true,
+        }
     }
 
     // Whether row q offers a void row if row p does.
     fn voids_kept(&self, p: u8, q: u8) -> bool
-        ensures { Decides result (((o : ℕ) × (in_row self.now.voids p o ≡ true)) → (o : ℕ) × (in_row self.now.voids q o ≡ true)) }
+        ensures { Decides result (OffersVoid (rows_in self.now) p → OffersVoid (rows_in self.now) q) }
     {
-        !self.offers_void(p) || self.offers_void(q)
+        !self.gives_void(p) || self.gives_void(q)
     }
 
     // The same, and whether it gives all labels that row p gives.
     fn offers_kept(&self, p: u8, q: u8) -> bool
-        ensures { Decides result ((((o : ℕ) × (in_row self.now.voids p o ≡ true)) → (o : ℕ) × (in_row self.now.voids q o ≡ true)) × ((x : ℕ) → belongs x (labels_at self.now.labels p) ≡ true → belongs x (labels_at self.now.labels q) ≡ true)) }
+        ensures { Decides result ((OffersVoid (rows_in self.now) p → OffersVoid (rows_in self.now) q) × ((x : ℕ) → LabelledBy (rows_in self.now) p x → LabelledBy (rows_in self.now) q x)) }
     {
-        self.voids_kept(p, q) && covers(self.labels_at(q), self.labels_at(p))
-    }
-
-    // Whether it takes the channel rows that row p offers, and agrees with the element rows.
-    fn parts_kept(&self, pairs: &[u64], p: u8, q: u8) -> bool
-        ensures { Decides result (((c : ℕ) → in_row self.now.channels p c ≡ true → RowTaken (rows_in self.now) (related_in self.now pairs.now) (in_row self.now.channels q) c) × ((e : ℕ) → in_row self.now.elements p e ≡ true → (f : ℕ) → in_row self.now.elements q f ≡ true → agrees (related_in self.now pairs.now) (slice_get (rows_in self.now) e) (slice_get (rows_in self.now) f) ≡ true)) }
-    {
-        self.rows_taken(pairs, p, q) && self.rows_agree(pairs, p, q)
+        self.voids_kept(p, q) && covers(self.labels(q), self.labels(p))
     }
 
     // Whether the pair keeps the rules within the set of pairs. A number outside the table offers nothing.
     pub fn keeps(&self, pair: (u8, u8), pairs: &[u64]) -> bool
         ensures { Decides result (Keeps (rows_in self.now) (related_in self.now pairs.now) pair.0 pair.1) }
     {
-        self.offers_kept(pair.0, pair.1) && self.parts_kept(pairs, pair.0, pair.1)
+        let within = Within {
+            prepared: self,
+            pairs,
+        };
+        self.offers_kept(pair.0, pair.1) && within.parts_kept(pair.0, pair.1)
     }
 }

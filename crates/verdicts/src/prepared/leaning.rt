@@ -1,156 +1,79 @@
 // What a pair of rows leans on: itself, the pairs that the rules name for it, and what those lean on.
-ghost use Rattle.std.specs.Prelude.{◌≡◌, ℕ, ◌*◌, ◌<◌, ◌≤◌, true, false, ◌⊎◌, length, Some, Decides, MatchOption};
+ghost use Rattle.std.specs.Prelude.{◌≡◌, ℕ, ◌*◌, ◌<◌, ◌≤◌, true, false, ◌⊎◌, Some, Decides, MatchOption};
 ghost use Rattle.std.specs.List.{slice_get};
-ghost use Rattle.sets.specs.Sets.{member, word};
+ghost use Rattle.sets.specs.Sets.{member};
 ghost use Rattle.forms.specs.Limits.{max_rows};
 ghost use Rattle.schema.specs.Rules.{Below, Included, Leans};
 ghost use Rattle.schema.specs.Theorems.{Confined};
-ghost use Rattle.verdicts.specs.Naming.{names_of_payloads, names_by_channel, names_by_element, named_by, place_of, NamedAt, NamedAmong, NamedWith, NamedFor, Noted, Pended};
-ghost use Rattle.verdicts.specs.Pairs.{Leaned};
+ghost use Rattle.verdicts.specs.Naming.{NamedAt, NamedAmong, NamedWith, NamedFor, Noted};
+ghost use Rattle.verdicts.specs.Pairs.{place_of, Leaned};
 ghost use Rattle.verdicts.specs.Ready.{in_row};
 ghost use Rattle.verdicts.specs.Tables.{rows_in, count_in, related_in};
+ghost use Rattle.verdicts.specs.Walking.{Notes, Takes, IsAtRest};
 
 use super::super::rowsets::RowSet;
 use super::Prepared;
 use super::deciding::PAIR_WORDS;
-use super::keeping::share;
-use forms::{Capability, FormSource, MAX_ROWS, Row};
+use super::naming::named_by;
+use forms::{FormSource, MAX_ROWS, Row};
 use relation::offering::{CELL_WORDS, has};
 use sets;
 
-// The pairs of payloads that the rules name for two channels.
-fn named_payloads(c: (Capability, u8), d: (Capability, u8)) -> (Option<(u8, u8)>, Option<(u8, u8)>)
-    ensures { result ≡ names_of_payloads c.0 d.0 c.1 d.1 }
-{
-    match (c.0, d.0) {
-        (Capability::In | Capability::Both, Capability::In) => (Some((c.1, d.1)), None),
-        (Capability::Out | Capability::Both, Capability::Out) => (None, Some((d.1, c.1))),
-        (Capability::Both, Capability::Both) => (Some((c.1, d.1)), Some((d.1, c.1))),
-        _ => (None, None),
-    }
-}
-
-// The same for a channel and a row.
-fn named_by_channel(c: (Capability, u8), row: Option<Row>) -> (Option<(u8, u8)>, Option<(u8, u8)>)
-    ensures { result ≡ names_by_channel c.0 c.1 row }
-{
-    match row {
-        Some(Row::Channel(capability, payload)) => named_payloads(c, (capability, payload)),
-        _ => (None, None),
-    }
-}
-
-// The pairs of parts that the rules name for an element and a row.
-fn named_by_element(
-    labels: u64,
-    parts: (u8, u8),
-    row: Option<Row>,
-) -> (Option<(u8, u8)>, Option<(u8, u8)>)
-    ensures { result ≡ names_by_element labels parts.0 parts.1 row }
-{
-    match row {
-        Some(
-            Row::Element {
-                labels: other,
-                inside,
-                following,
-            },
-        ) => {
-            if share(labels, other) {
-                (Some((parts.0, inside)), Some((parts.1, following)))
-            } else {
-                (None, None)
-            }
-        }
-        _ => (None, None),
-    }
-}
-
-// The pairs that the rules name for two rows.
-fn named_by(c: Option<Row>, d: Option<Row>) -> (Option<(u8, u8)>, Option<(u8, u8)>)
-    ensures { result ≡ named_by c d }
-{
-    match c {
-        Some(Row::Channel(capability, payload)) => named_by_channel((capability, payload), d),
-        Some(
-            Row::Element {
-                labels,
-                inside,
-                following,
-            },
-        ) => named_by_element(labels, (inside, following), d),
-        _ => (None, None),
-    }
-}
-
-// Notes a place as pending, unless it is done.
-fn pend(done: &[u64], pending: &mut [u64], place: Option<usize>)
-    requires room { word * length pending.old ≡ max_rows * max_rows }
-    requires small { (k : ℕ) → place ≡ Some k → k < max_rows * max_rows }
-    ensures { Pended (λ k. place ≡ Some k) done.now pending.old pending.new }
-{
-    if let Some(k) = place {
-        if !sets::test(done, k) {
-            sets::put(pending, k);
-        }
-    }
+// A walk from pairs to the pairs that the rules name for them: those that were gone through, and those that are still to be.
+#[derive(Drop)]
+struct Walk {
+    done: [u64; PAIR_WORDS],
+    pending: [u64; PAIR_WORDS],
 }
 
 impl Prepared {
-    // The place of a pair, if it is a pair of rows.
-    fn place(&self, pair: Option<(u8, u8)>) -> Option<usize>
-        ensures is { result ≡ place_of (count_in self.now) pair }
-        ensures small { (k : ℕ) → result ≡ Some k → k < max_rows * max_rows }
+    // Notes a pair as pending, if it is one of rows and not done.
+    fn note(&self, walk: &mut Walk, pair: Option<(u8, u8)>)
+        ensures { Notes (λ k. place_of (count_in self.now) pair ≡ Some k) walk.old walk.new }
     {
-        let (p, q) = pair?;
-        let n = self.count();
-        if (p as usize) < n && (q as usize) < n {
-            Some(p as usize * n + q as usize)
-        } else {
-            None
+        if let Some(k) = pair.and_then(|pair| self.place(pair)) {
+            if !sets::test(&walk.done, k) {
+                sets::put(&mut walk.pending, k);
+            }
         }
     }
 
     // Notes the pairs that the rules name for two rows.
-    fn name_rows(&self, done: &[u64], pending: &mut [u64], c: Option<Row>, d: Option<Row>)
-        requires { word * length pending.old ≡ max_rows * max_rows }
-        ensures { Pended (NamedAt (count_in self.now) c d) done.now pending.old pending.new }
+    fn name_rows(&self, walk: &mut Walk, c: Option<Row>, d: Option<Row>)
+        ensures { Notes (NamedAt (count_in self.now) c d) walk.old walk.new }
     {
         let (one, two) = named_by(c, d);
-        pend(done, pending, self.place(one));
-        pend(done, pending, self.place(two));
+        self.note(walk, one);
+        self.note(walk, two);
     }
 
     // Notes the pairs that the rules name for a row and those in the set of row q.
-    fn name_row(&self, cells: &[u64], done: &[u64], pending: &mut [u64], c: Option<Row>, q: u8)
-        requires { word * length pending.old ≡ max_rows * max_rows }
-        ensures { Pended (λ k. (d : ℕ) × (in_row cells.now q d ≡ true) × NamedAt (count_in self.now) c (slice_get (rows_in self.now) d) k) done.now pending.old pending.new }
+    fn name_row(&self, walk: &mut Walk, cells: &[u64; CELL_WORDS], c: Option<Row>, q: u8)
+        ensures { Notes (λ k. (d : ℕ) × (in_row cells.now q d ≡ true) × NamedAt (count_in self.now) c (slice_get (rows_in self.now) d) k) walk.old walk.new }
     {
         for d in RowSet::of(cells, q) {
-            self.name_rows(done, pending, c, self.table.row(d));
+            self.name_rows(walk, c, self.table.row(d));
         }
     }
 
     // Notes the pairs that the rules name for row c and those in the set of row q, unless that was done before. What was done is in `met`.
+    // As it is: `met` is no part of the walk, since there are two of it, and a walk that held them could not hand on one of them beside itself.
     fn name_once(
         &self,
-        cells: &[u64],
-        done: &[u64],
-        pending: &mut [u64],
-        met: &mut [u64],
+        walk: &mut Walk,
+        cells: &[u64; CELL_WORDS],
+        met: &mut [u64; CELL_WORDS],
         pair: (u8, u8),
     )
-        requires room { word * length pending.old ≡ max_rows * max_rows }
-        requires space { word * length met.old ≡ max_rows * max_rows }
         requires first { pair.0 < max_rows }
         requires second { pair.1 < max_rows }
-        requires noted { Noted (rows_in self.now) cells.now met.old done.now pending.old }
-        ensures pended { Pended (NamedWith (rows_in self.now) cells.now pair.0 pair.1) done.now pending.old pending.new }
-        ensures noted { Noted (rows_in self.now) cells.now met.new done.now pending.new }
+        requires noted { Noted (rows_in self.now) cells.now met.old walk.old.done walk.old.pending }
+        ensures pended { Notes (NamedWith (rows_in self.now) cells.now pair.0 pair.1) walk.old walk.new }
+        ensures noted { Noted (rows_in self.now) cells.now met.new walk.new.done walk.new.pending }
     {
         let (c, q) = pair;
         if !has(met, c as u16, q) {
-            self.name_row(cells, done, pending, self.table.row(c), q);
+            self.name_row(walk, cells, self.table.row(c), q);
             sets::put(met, c as usize * MAX_ROWS + q as usize);
         }
     }
@@ -158,50 +81,47 @@ impl Prepared {
     // Notes the pairs that the rules name for the rows in the set of row p and those in the set of row q, each row and set once.
     fn name_sets_once(
         &self,
-        cells: &[u64],
-        done: &[u64],
-        pending: &mut [u64],
-        met: &mut [u64],
+        walk: &mut Walk,
+        cells: &[u64; CELL_WORDS],
+        met: &mut [u64; CELL_WORDS],
         pair: (u8, u8),
     )
-        requires room { word * length pending.old ≡ max_rows * max_rows }
-        requires space { word * length met.old ≡ max_rows * max_rows }
         requires second { pair.1 < max_rows }
-        requires noted { Noted (rows_in self.now) cells.now met.old done.now pending.old }
-        ensures pended { Pended (NamedAmong (rows_in self.now) (in_row cells.now pair.0) (in_row cells.now pair.1)) done.now pending.old pending.new }
-        ensures noted { Noted (rows_in self.now) cells.now met.new done.now pending.new }
+        requires noted { Noted (rows_in self.now) cells.now met.old walk.old.done walk.old.pending }
+        ensures pended { Notes (NamedAmong (rows_in self.now) (in_row cells.now pair.0) (in_row cells.now pair.1)) walk.old walk.new }
+        ensures noted { Noted (rows_in self.now) cells.now met.new walk.new.done walk.new.pending }
     {
         for c in RowSet::of(cells, pair.0) {
-            self.name_once(cells, done, pending, met, (c, pair.1));
+            self.name_once(walk, cells, met, (c, pair.1));
         }
     }
 
     // Notes the pairs that the rules name for a pair. What was done for channels and for elements is in `links` and `parts`.
     fn name_pair_once(
         &self,
-        done: &[u64],
-        pending: &mut [u64],
-        links: &mut [u64],
-        parts: &mut [u64],
+        walk: &mut Walk,
+        links: &mut [u64; CELL_WORDS],
+        parts: &mut [u64; CELL_WORDS],
         pair: (u8, u8),
     )
-        requires room { word * length pending.old ≡ max_rows * max_rows }
-        requires space { (word * length links.old ≡ max_rows * max_rows) × (word * length parts.old ≡ max_rows * max_rows) }
         requires second { pair.1 < max_rows }
-        requires noted { Noted (rows_in self.now) self.now.channels links.old done.now pending.old × Noted (rows_in self.now) self.now.elements parts.old done.now pending.old }
-        ensures pended { Pended (NamedFor (rows_in self.now) pair.0 pair.1) done.now pending.old pending.new }
-        ensures noted { Noted (rows_in self.now) self.now.channels links.new done.now pending.new × Noted (rows_in self.now) self.now.elements parts.new done.now pending.new }
+        requires noted { Noted (rows_in self.now) self.now.channels links.old walk.old.done walk.old.pending × Noted (rows_in self.now) self.now.elements parts.old walk.old.done walk.old.pending }
+        ensures pended { Notes (NamedFor (rows_in self.now) pair.0 pair.1) walk.old walk.new }
+        ensures noted { Noted (rows_in self.now) self.now.channels links.new walk.new.done walk.new.pending × Noted (rows_in self.now) self.now.elements parts.new walk.new.done walk.new.pending }
     {
-        self.name_sets_once(&self.channels, done, pending, links, pair);
-        self.name_sets_once(&self.elements, done, pending, parts, pair);
+        self.name_sets_once(walk, &self.channels, links, pair);
+        self.name_sets_once(walk, &self.elements, parts, pair);
     }
 
-    // The lowest pair that is pending, by its place.
-    fn lowest(&self, pending: &[u64]) -> Option<usize>
-        ensures { MatchOption result ((j : ℕ) → j < count_in self.now * count_in self.now → member pending.now j ≡ false) (λ k. (k < count_in self.now * count_in self.now) × (member pending.now k ≡ true)) }
+    // Takes the lowest pair that is pending, which is done from then on.
+    fn take_lowest(&self, walk: &mut Walk) -> Option<(u8, u8)>
+        ensures { MatchOption result (IsAtRest (count_in self.now) walk.old walk.new) (λ pair. Takes (count_in self.now) pair walk.old walk.new) }
     {
-        let n = self.count();
-        sets::next(pending, 0).filter(|k| *k < n * n)
+        let k = sets::next(&walk.pending, 0)?;
+        let pair = self.pair_at(k)?;
+        sets::remove(&mut walk.pending, k);
+        sets::put(&mut walk.done, k);
+        Some(pair)
     }
 
     // The pairs that the pairs of a set lean on.
@@ -210,23 +130,16 @@ impl Prepared {
         ensures confined { Confined (rows_in self.now) (related_in self.now result) }
         ensures rest { (k : ℕ) → count_in self.now * count_in self.now ≤ k → member result k ≡ false }
     {
-        let n = self.count();
-        let mut done = [0; PAIR_WORDS];
-        let mut pending = starts;
+        let mut walk = Walk {
+            done: [0; PAIR_WORDS],
+            pending: starts,
+        };
         let mut links = [0; CELL_WORDS];
         let mut parts = [0; CELL_WORDS];
-        while let Some(k) = self.lowest(&pending) {
-            sets::remove(&mut pending, k);
-            sets::put(&mut done, k);
-            self.name_pair_once(
-                &done,
-                &mut pending,
-                &mut links,
-                &mut parts,
-                ((k / n) as u8, (k % n) as u8),
-            );
+        while let Some(pair) = self.take_lowest(&mut walk) {
+            self.name_pair_once(&mut walk, &mut links, &mut parts, pair);
         }
-        done
+        walk.done
     }
 
     // The pair alone, as a set; none, if it is no pair of rows.
@@ -234,7 +147,7 @@ impl Prepared {
         ensures { (k : ℕ) → Decides (member result k) (place_of (count_in self.now) (Some pair) ≡ Some k) }
     {
         let mut pairs = [0; PAIR_WORDS];
-        if let Some(k) = self.place(Some(pair)) {
+        if let Some(k) = self.place(pair) {
             sets::put(&mut pairs, k);
         }
         pairs

@@ -4,10 +4,10 @@ ghost use Rattle.std.specs.List.{slice_get};
 ghost use Rattle.forms.specs.Rows.{belongs};
 ghost use Rattle.forms.specs.Schema.{Offers, Inhabited, IsChannel};
 ghost use Rattle.schema.specs.Rules.{OffersVoid};
-ghost use Rattle.verdicts.specs.Reading.{LabelledBy, ChannelTaken};
+ghost use Rattle.verdicts.specs.Reading.{LabelledBy};
 ghost use Rattle.verdicts.specs.Ready.{IsElement};
 ghost use Rattle.verdicts.specs.RowSets.{row_set};
-ghost use Rattle.verdicts.specs.Tables.{rows_in, related_in};
+ghost use Rattle.verdicts.specs.Tables.{rows_in};
 
 use super::super::rowsets::RowSet;
 use super::Prepared;
@@ -25,7 +25,7 @@ impl Prepared {
     pub fn gives_void(&self, p: u8) -> bool
         ensures { Decides result (OffersVoid (rows_in self.now) p) }
     {
-        self.offers_void(p)
+        RowSet::of(&self.voids, p).next().is_some()
     }
 
     // The channel rows that row p offers.
@@ -48,13 +48,6 @@ impl Prepared {
     pub fn labels(&self, p: u8) -> u64
         ensures { (x : ℕ) → Decides (belongs x result) (LabelledBy (rows_in self.now) p x) }
     {
-        self.labels_at(p)
-    }
-
-    // Whether row q offers a channel row that row c, if it is a channel row, is below within the set of pairs.
-    pub fn takes_channel(&self, pairs: &[u64], c: u8, q: u8) -> bool
-        ensures { Decides result (ChannelTaken (rows_in self.now) (related_in self.now pairs.now) c q) }
-    {
-        self.row_taken(pairs, c, q)
+        self.labels.get(p as usize).copied().unwrap_or(0)
     }
 }

@@ -1,16 +1,18 @@
 // How a table is prepared.
-ghost use Rattle.std.specs.Prelude.{◌≡◌, ℕ, ◌*◌, ◌/◌, ◌%◌, ◌<◌, ◌&&◌, MatchResult, nat_lt, slice_index};
+ghost use Rattle.std.specs.Prelude.{◌≡◌, ℕ, ◌*◌, ◌/◌, ◌%◌, ◌<◌, ◌&&◌, Bool, MatchResult, Option, nat_lt, slice_index};
 ghost use Rattle.sets.specs.Sets.{member};
 ghost use Rattle.forms.specs.Limits.{max_rows};
 ghost use Rattle.forms.specs.Buffers.{rows_of};
+ghost use Rattle.forms.specs.declared.Row.{Row};
 ghost use Rattle.relation.specs.Admission.{Admitted, Finds};
 ghost use Rattle.relation.specs.Faults.{admission_refusal};
+ghost use Rattle.relation.specs.Judged.{Analyzed};
 ghost use Rattle.schema.specs.Theorems.{ReflexiveNeedsDetermined};
 ghost use Rattle.verdicts.specs.Ready.{in_row, labels_in, Labelling};
 ghost use Rattle.verdicts.specs.Sorting.{of_sort, picked};
 ghost use Rattle.verdicts.specs.Tables.{rows_in};
 
-use super::super::kinds::{Kind, is_kind};
+use super::super::kinds::{is_channel, is_element, is_void};
 use super::super::rowsets::RowSet;
 use super::Prepared;
 use forms::buffer::RowBuffer;
@@ -22,21 +24,21 @@ use relation::offering::{CELL_WORDS, ROW_WORDS};
 use sets;
 use std::array;
 
-// Whether row o is inhabited and of that sort.
-fn is_sort(table: &RowBuffer, analysis: &Analysis, kind: Kind, o: u8) -> bool
-    ensures { result ≡ of_sort (rows_of table.now) analysis.now kind o }
-{
-    let row = table.row(o);
-    analysis.is_inhabited(o) && is_kind(kind, row)
-}
-
-// The inhabited rows of that sort.
-fn rows_of_sort(table: &RowBuffer, analysis: &Analysis, kind: Kind) -> [u64; ROW_WORDS]
-    ensures { (o : ℕ) → member result o ≡ (nat_lt o max_rows && of_sort (rows_of table.now) analysis.now kind o) }
+// The inhabited rows that pass the test.
+// As it is: fitting gathers numbers that pass a test by a loop of its own. One function for both would be public and would ask that the test may be called, and no public function here asks anything.
+fn rows_of_sort<F: Fn(Option<Row>) -> bool>(
+    table: &RowBuffer,
+    analysis: &Analysis,
+    passes: F,
+) -> [u64; ROW_WORDS]
+    ghost test: { Option Row → Bool }
+    requires callable { F.IsAlwaysCallable passes }
+    requires told { (row : Option Row) (yes : Bool) → F.post passes row yes → yes ≡ test row }
+    ensures { (o : ℕ) → member result o ≡ (nat_lt o max_rows && of_sort (rows_of table.now) analysis.now test o) }
 {
     let mut rows = [0; ROW_WORDS];
     for o in 0..MAX_ROWS {
-        if is_sort(table, analysis, kind, o as u8) {
+        if analysis.is_inhabited(o as u8) && passes(table.row(o as u8)) {
             sets::put(&mut rows, o);
         }
     }
@@ -50,11 +52,18 @@ fn among(cells: &[u64; CELL_WORDS], rows: &[u64; ROW_WORDS]) -> [u64; CELL_WORDS
     array::from_fn(|i| cells[i] & rows[i % ROW_WORDS])
 }
 
-// For each row the inhabited rows of that sort that it offers.
-fn gather(table: &RowBuffer, analysis: &Analysis, kind: Kind) -> [u64; CELL_WORDS]
-    ensures { (k : ℕ) → member result k ≡ (nat_lt k (max_rows * max_rows) && picked (rows_of table.now) analysis.now kind (k / max_rows) (k % max_rows)) }
+// For each row the inhabited rows that it offers and that pass the test.
+fn gather<F: Fn(Option<Row>) -> bool>(
+    table: &RowBuffer,
+    analysis: &Analysis,
+    passes: F,
+) -> [u64; CELL_WORDS]
+    ghost test: { Option Row → Bool }
+    requires callable { F.IsAlwaysCallable passes }
+    requires told { (row : Option Row) (yes : Bool) → F.post passes row yes → yes ≡ test row }
+    ensures { (k : ℕ) → member result k ≡ (nat_lt k (max_rows * max_rows) && picked (rows_of table.now) analysis.now test (k / max_rows) (k % max_rows)) }
 {
-    let rows = rows_of_sort(table, analysis, kind);
+    let rows = rows_of_sort(table, analysis, passes);
     among(analysis.offered(), &rows)
 }
 
@@ -89,23 +98,31 @@ fn gather_labels(table: &RowBuffer, elements: &[u64]) -> [u64; MAX_ROWS]
 }
 
 impl Prepared {
+    // Prepares an admitted table.
+    fn sorted(table: RowBuffer, analysis: &Analysis) -> Prepared
+        requires admitted { Admitted (rows_of table) }
+        requires analyzed { Analyzed (rows_of table) analysis.now }
+        ensures { rows_in result ≡ rows_of table }
+    {
+        let voids = gather(&table, analysis, is_void);
+        let channels = gather(&table, analysis, is_channel);
+        let elements = gather(&table, analysis, is_element);
+        let labels = gather_labels(&table, &elements);
+        Prepared {
+            table,
+            voids,
+            channels,
+            elements,
+            labels,
+        }
+    }
+
     // Prepares the table of a source, or says why it is not admitted. Where a label came twice, a row might not be below itself.
     pub fn of<S: FormSource>(source: &S) -> Result<Prepared, AdmissionFault>
         ensures prepared { MatchResult result (λ t. (rows_in t ≡ S.FormSource.rows source.now) × Admitted (S.FormSource.rows source.now)) (λ e. Finds (S.FormSource.rows source.now) (admission_refusal e)) }
         ensures needed { ReflexiveNeedsDetermined }
     {
         let analysis = admit(source)?;
-        let table = RowBuffer::of(source);
-        let voids = gather(&table, &analysis, Kind::OfVoid);
-        let channels = gather(&table, &analysis, Kind::OfChannel);
-        let elements = gather(&table, &analysis, Kind::OfElement);
-        let labels = gather_labels(&table, &elements);
-        Ok(Prepared {
-            table,
-            voids,
-            channels,
-            elements,
-            labels,
-        })
+        Ok(Prepared::sorted(RowBuffer::of(source), &analysis))
     }
 }

@@ -9,5 +9,5 @@ use borrow.Author.Tests.{tests}
 pub returns : goal.returns
 returns c =
     let rows = rows_of c.args.prepared.now.table in
-    picked_all _ _ (OffersVoid rows) c.numbers_where.result c.row_count.result c.numbers_where.ensures.passed c.numbers_where.ensures.others
-    (λ k h. search (rules, tests)) (λ k h. search (rules, tests)) (λ k v. subst (λ n. k < n) (sym c.row_count.ensures.is) (void_below rows k v))
+    picked_all _ _ (OffersVoid rows) c.numbers_where.result c.count.result c.numbers_where.ensures.passed c.numbers_where.ensures.others
+    (λ k h. search (rules, tests)) (λ k h. search (rules, tests)) (λ k v. subst (λ n. k < n) (sym c.count.ensures.is) (void_below rows k v))

@@ -8,6 +8,6 @@ pub returns : goal.returns
 returns c =
     let rows = rows_of c.args.prepared.now.table in
     let made = c.numbers_where.ensures in
-    let (wanted, rest) = wanted_all rows c.args.nodes.now c.row_count-n.result c.row_count-n.ensures.is c.row_count-n.ensures.few c.referred-rows.result c.referred-rows.ensures
-    _ _ c.numbers_where.result made.passed made.others (λ k h. search (rules, tests)) (λ k h. search (rules, tests)) in
+    let (wanted, rest) = wanted_all rows c.args.nodes.now c.count-n.result c.count-n.ensures.is c.count-n.ensures.few c.referred-rows.result c.referred-rows.ensures
+    _ _ c.numbers_where.result made.passed made.others (λ k low h. search (rules, tests)) (λ k low h. search (rules, tests)) in
     record { wanted = wanted; rest = rest }

@@ -23,14 +23,14 @@ pub returns-in-Some : goal.returns-in-Some
 returns-in-Some c =
     let l = c.args.self.now in
     let words = c.args.relation.now in
-    refused_rule l words c.in-Some.p c.in-Some.q (shape l c.count-n.result words _ c.next.result c.count-n.ensures c.if-relation-numbers_for.false c.numbers_for.ensures.is c.next.ensures (sym c.if-is_some.ensures)) c.in-Some.ensures
+    refused_rule l words c.in-Some.p c.in-Some.q (shape l c.count-n.result words _ c.next.result c.count-n.ensures.is c.if-relation-numbers_for.false c.numbers_for.ensures.is c.next.ensures (sym c.if-is_some.ensures)) c.in-Some.ensures
 
 pub invariant_of-self : goal.invariant_of-self
 invariant_of-self c =
     let l = c.args.self.now in
     let rows = ledger_rows l in
     let words = c.args.relation.now in
-    let shaped = shape l c.count-n.result words _ c.next.result c.count-n.ensures c.if-relation-numbers_for.false c.numbers_for.ensures.is c.next.ensures (sym c.if-is_some.ensures) in
+    let shaped = shape l c.count-n.result words _ c.next.result c.count-n.ensures.is c.if-relation-numbers_for.false c.numbers_for.ensures.is c.next.ensures (sym c.if-is_some.ensures) in
     record {
       kept = ∣ kept_offered rows (admitted_of l.prepared).some (buffer_laws l.prepared.table).few l.held l.yes l.settled c.join-2.new.words c.join.new.words words words (kept_of l)
           shaped.clear shaped.clear c.join-2.ensures.members c.join.ensures.members c.join-2.auto.words c.join.auto.words
@@ -42,5 +42,5 @@ returns c =
     let l = c.args.self.now in
     let rows = ledger_rows l in
     let words = c.args.relation.now in
-    let shaped = shape l c.count-n.result words _ c.next.result c.count-n.ensures c.if-relation-numbers_for.false c.numbers_for.ensures.is c.next.ensures (sym c.if-is_some.ensures) in
+    let shaped = shape l c.count-n.result words _ c.next.result c.count-n.ensures.is c.if-relation-numbers_for.false c.numbers_for.ensures.is c.next.ensures (sym c.if-is_some.ensures) in
     taken_done l words _ c.join-2.result refl (record { shaped = shaped; closed = c.in_default.ensures }) c.join-2.ensures.members c.join-2.ensures.new

@@ -24,7 +24,7 @@ visit-requires c =
     record {
       asked = c.requires.asked;
       holds = c.loop-drawn.invariant.holds;
-      within = subst (λ n. pair_place n p q < places rows) (sym c.count-n.ensures) (pair_place_low (length rows) p q p< q<);
+      within = subst (λ n. pair_place n p q < places rows) (sym c.count-n.ensures.is) (pair_place_low (length rows) p q p< q<);
     }
 
 pub loop-drawn-smaller : goal.loop-drawn-smaller
@@ -39,7 +39,7 @@ loop-drawn-smaller c =
     waits_less rows (related (length rows) c.args.question.now.leaned.now) (related (length rows) c.args.question.now.below.now) (pair_place c.count-n.result p q)
     c.args.nodes.now c.loop-drawn.nodes c.visit.new.nodes d.used v.used d.numbers v.numbers c.visit.result
     c.loop-drawn.invariant c.visit.ensures c.loop-drawn-test.true c.round.new.nodes w.used w.numbers c.round.ensures
-    (bounded_of t) c.requires.asked p q (ap (λ n. pair_place n p q) c.count-n.ensures) c.requires.leans c.requires.apart
+    (bounded_of t) c.requires.asked p q (ap (λ n. pair_place n p q) c.count-n.ensures.is) c.requires.leans c.requires.apart
 
 pub loop-drawn-preserved : goal.loop-drawn-preserved
 loop-drawn-preserved c =
@@ -65,7 +65,7 @@ returns c =
     let grown = ends_grown rows leaned below asked c.args.nodes.now c.loop-drawn.nodes c.visit.new.nodes d.used v.used d.numbers v.numbers c.visit.result c.loop-drawn.invariant c.visit.ensures c.loop-drawn-test.false in
     record {
       few = used_low rows below c.visit.new.nodes v.used v.numbers c.visit.ensures.holds;
-      shows = ends_shown rows leaned below asked c.args.nodes.now c.loop-drawn.nodes c.visit.new.nodes d.used v.used d.numbers v.numbers c.visit.result c.loop-drawn.invariant c.visit.ensures c.loop-drawn-test.false p q (ap (λ n. pair_place n p q) c.count-n.ensures) p< q<;
+      shows = ends_shown rows leaned below asked c.args.nodes.now c.loop-drawn.nodes c.visit.new.nodes d.used v.used d.numbers v.numbers c.visit.result c.loop-drawn.invariant c.visit.ensures c.loop-drawn-test.false p q (ap (λ n. pair_place n p q) c.count-n.ensures.is) p< q<;
       rest = grown.rest;
       same = grown.same;
     }

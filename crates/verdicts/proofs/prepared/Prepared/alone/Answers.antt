@@ -3,7 +3,7 @@ use Rattle.std.proofs.lemmas.Bool.{both_ways}
 use Rattle.sets.specs.Sets.{word}
 use Rattle.forms.specs.Buffers.{rows_of}
 use Rattle.forms.specs.Limits.{max_rows}
-use Rattle.verdicts.specs.Naming.{place_of}
+use Rattle.verdicts.specs.Pairs.{place_of}
 use Rattle.verdicts.proofs.LeanedFrom.{alone_put, alone_none}
 use Rattle.verdicts.proofs.prepared.Prepared.alone.Goals as goal
 

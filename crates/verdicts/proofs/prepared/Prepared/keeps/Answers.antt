@@ -2,7 +2,7 @@ use Rattle.std.proofs.Common.{length}
 use Rattle.std.proofs.lemmas.Bool.{both_ways}
 use Rattle.forms.specs.Buffers.{rows_of}
 use Rattle.verdicts.specs.Pairs.{related}
-use Rattle.verdicts.proofs.Keeping.{keeps_from, keeps_voids, keeps_covers, keeps_taken, keeps_agree}
+use Rattle.verdicts.proofs.Keeping.{keeps_from, keeps_covers, keeps_taken, keeps_agree}
 use Rattle.verdicts.proofs.prepared.Prepared.keeps.Goals as goal
 
 pub returns-then-offers_kept : goal.returns-then-offers_kept
@@ -23,5 +23,5 @@ returns-else-offers_kept c =
     let p = c.args.pair.0 in
     let q = c.args.pair.1 in (
       λ e. absurd (both_ways c.offers_kept.result c.if-offers_kept.false e),
-      λ k. c.offers_kept.ensures.1 (keeps_voids t R p q k, keeps_covers t R p q k),
+      λ k. c.offers_kept.ensures.1 (k.voids, keeps_covers t R p q k),
     )

@@ -5,8 +5,8 @@ use Rattle.forms.specs.Limits.{max_rows}
 use Rattle.verdicts.proofs.LeanedFrom.{Walking}
 use Rattle.verdicts.proofs.prepared.Prepared.leaned_from.Given as goal
 
-abbrev pub invariant-loop-k : goal.invariant-loop-k
-invariant-loop-k l = Walking (rows_of l.self.table) l.self.channels l.self.elements l.initial.pending l.done l.pending l.links l.parts
+abbrev pub invariant-loop-pair : goal.invariant-loop-pair
+invariant-loop-pair l = Walking (rows_of l.self.table) l.self.channels l.self.elements l.initial.walk.pending l.links l.parts l.walk
 
-abbrev pub decreases-loop-k : goal.decreases-loop-k
-decreases-loop-k l = max_rows * max_rows - tally (member l.done) (max_rows * max_rows)
+abbrev pub decreases-loop-pair : goal.decreases-loop-pair
+decreases-loop-pair l = max_rows * max_rows - tally (member l.walk.done) (max_rows * max_rows)

@@ -5,4 +5,4 @@ use Rattle.verdicts.proofs.Gathering.{Gathered}
 use Rattle.verdicts.proofs.prepared.sorting.rows_of_sort.Given as goal
 
 abbrev pub invariant-loop-o : goal.invariant-loop-o
-invariant-loop-o l = Gathered max_rows (of_sort (rows_of l.table) l.analysis l.kind) l.rows l.o
+invariant-loop-o g l = Gathered max_rows (of_sort (rows_of l.table) l.analysis g.test) l.rows l.o

@@ -6,12 +6,12 @@ use Rattle.verdicts.specs.Pairs.{related}
 use Rattle.verdicts.specs.Ready.{in_row}
 use Rattle.verdicts.specs.RowSets.{row_set}
 use Rattle.verdicts.specs.Tests.{agrees}
-use Rattle.verdicts.proofs.prepared.Prepared.row_agrees.Goals as goal
+use Rattle.verdicts.proofs.prepared.keeping.Within.row_agrees.Goals as goal
 use borrow.Author.Tests.{tests}
 
 pub returns : goal.returns
 returns c =
-    let t = c.args.self.now in
+    let t = c.args.self.now.prepared.now in
     let rows = rows_of t.table in
-    let Yes : ℕ → Type 0 = λ f. agrees (related (length rows) c.args.pairs.now) c.args.row (slice_get rows f) ≡ true in
+    let Yes : ℕ → Type 0 = λ f. agrees (related (length rows) c.args.self.now.pairs.now) c.args.row (slice_get rows f) ≡ true in
     decides_all row_set (λ s. s.start) (in_row t.elements c.args.q) c.of.ensures.start c.of.ensures.set Yes c.all.ensures.ran (λ x q k. search (rules, tests)) (λ x q k. search (rules, tests))

@@ -6,12 +6,12 @@ use Rattle.verdicts.specs.Pairs.{related}
 use Rattle.verdicts.specs.Ready.{in_row}
 use Rattle.verdicts.specs.RowSets.{row_set}
 use Rattle.verdicts.specs.Tests.{takes}
-use Rattle.verdicts.proofs.prepared.Prepared.taken.Goals as goal
+use Rattle.verdicts.proofs.prepared.keeping.Within.taken.Goals as goal
 use borrow.Author.Tests.{tests}
 
 pub returns : goal.returns
 returns c =
-    let t = c.args.self.now in
+    let t = c.args.self.now.prepared.now in
     let rows = rows_of t.table in
-    let Yes : ℕ → Type 0 = λ d. takes (related (length rows) c.args.pairs.now) c.args.c.0 c.args.c.1 (slice_get rows d) ≡ true in
+    let Yes : ℕ → Type 0 = λ d. takes (related (length rows) c.args.self.now.pairs.now) c.args.c.0 c.args.c.1 (slice_get rows d) ≡ true in
     decides_any row_set (λ s. s.start) (in_row t.channels c.args.q) c.of.ensures.start c.of.ensures.set Yes c.any.ensures.ran (λ x q k. search (rules, tests)) (λ x q k. search (rules, tests))

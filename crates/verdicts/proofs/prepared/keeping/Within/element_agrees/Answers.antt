@@ -6,15 +6,15 @@ use Rattle.verdicts.specs.Pairs.{related}
 use Rattle.verdicts.specs.Ready.{in_row}
 use Rattle.verdicts.specs.Tests.{agrees}
 use Rattle.verdicts.proofs.Keeping.{own_agrees}
-use Rattle.verdicts.proofs.prepared.Prepared.element_agrees.Goals as goal
+use Rattle.verdicts.proofs.prepared.keeping.Within.element_agrees.Goals as goal
 
 pub returns-then-has : goal.returns-then-has
 returns-then-has c =
-    let t = c.args.self.now in
+    let t = c.args.self.now.prepared.now in
     let rows = rows_of t.table in
     let e = c.args.e in
     let q = c.args.q in
-    let R : Relation = related (length rows) c.args.pairs.now in
+    let R : Relation = related (length rows) c.args.self.now.pairs.now in
     subst (λ b. Decides b ((f : ℕ) → in_row t.elements q f ≡ true → agrees R (slice_get rows e) (slice_get rows f) ≡ true))
     (sym (c.agrees.ensures ∙ ap (λ r. agrees R r (slice_get rows e)) c.row-row.ensures))
     (own_agrees t R q e (sym c.has.ensures ∙ c.if-has.true))
