@@ -7,4 +7,5 @@ pub mod Suiting
 pub mod Complete
 pub mod Drawing
 pub mod Shown
+pub mod Questions
 pub mod Lacking

@@ -1,5 +1,5 @@
 -- What the tests before showing tell, in terms of the rows. Assumes nothing.
-use Rattle.std.proofs.Common.{◌≡◌, ℕ, ◌+◌, ◌*◌, ◌<◌, ◌≤◌, Bool, true, false, List, ap, ◌∙◌, subst}
+use Rattle.std.proofs.Common.{◌≡◌, ℕ, ◌+◌, ◌*◌, Bool, true, false, List, ap, ◌∙◌}
 use Rattle.std.proofs.lemmas.Bool.{both_ways}
 use Rattle.sets.specs.Sets.{member}
 use Rattle.verdicts.specs.Pairs.{related}
@@ -7,8 +7,5 @@ use Rattle.verdicts.proofs.Deciding.{between_parts}
 
 -- m is the number of rows
 module _ (m n p q : ℕ) (is : m ≡ n) where
-  pub askable_rows : (room : ℕ) → (p < m) × (q < m) × (m * (m + 1) ≤ room) → (p < n) × (q < n) × (n * (n + 1) ≤ room)
-  askable_rows room = subst (λ x. (p < x) × (q < x) × (x * (x + 1) ≤ room)) is
-
   pub not_below : (words : List ℕ) (b : Bool) → b ≡ member words (p * m + q) → b ≡ false → related n words p q ≡ true → ⊥
   not_below words b test off h = both_ways b off (test ∙ ap (λ x. member words (p * x + q)) is ∙ (between_parts n (member words) p q h).2)

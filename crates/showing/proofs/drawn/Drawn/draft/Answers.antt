@@ -17,7 +17,7 @@ overflow_cast-k c =
     let t = c.args.question.now.prepared.now in
     let n = c.count-n.result in
     let k = c.args.place - n in
-    let low : k < n * n = (c.open.ensures.0 c.if-not-open.false).0 in
+    let low : k < n * n = subst (λ m. k < m * m) (sym c.count-n.ensures) (c.open.ensures.0 c.if-not-open.false).0 in
     let few : n ≤ max_rows = subst (λ m. m ≤ max_rows) (sym c.count-n.ensures) (buffer_laws t.table).few in
     let small = place_small n k (positive n k low) few low in
     omega arith
