@@ -1,5 +1,5 @@
 // Fitting document tables to the rows of an open book.
-ghost use Rattle.std.specs.Prelude.{◌≡◌, ℕ, ◌*◌, ◌≤◌, true, false, List, length, MatchResult};
+ghost use Rattle.std.specs.Prelude.{◌≡◌, ℕ, ◌*◌, ◌≤◌, true, false, List, length, Decides, MatchResult};
 ghost use Rattle.sets.specs.Sets.{member};
 ghost use Rattle.forms.specs.Refusals.Outcome.{refuses};
 ghost use Rattle.fitting.specs.Marks.{Among, Marked, TellsRoot};
@@ -25,7 +25,7 @@ use verdicts::prepared::deciding::PAIR_WORDS;
 impl Ledger {
     // Whether all that the pairs of a set lean on is held already.
     fn is_settled(&self, pairs: &[u64]) -> bool
-        ensures { result ≡ true → (k : ℕ) → member pairs.now k ≡ true → member self.now.settled k ≡ true }
+        ensures { Decides result ((k : ℕ) → member pairs.now k ≡ true → member self.now.settled k ≡ true) }
     {
         Members::of(pairs).all(|k| sets::test(&self.settled, k))
     }
