@@ -9,7 +9,7 @@ use Rattle.forms.specs.Limits.{max_rows}
 use Rattle.forms.specs.Refusals.{Outcome}
 use Rattle.forms.specs.Refusals.Outcome.{refuses, gives}
 use Rattle.forms.specs.declared.Row.{Row}
-use Rattle.relation.proofs.Reaching.{zeros_none}
+use Rattle.sets.proofs.Membership.{zeros_none}
 use Rattle.schema.specs.Rules.{Keeps, Closed}
 use Rattle.schema.proofs.Findings.{never}
 use Rattle.verdicts.specs.Facts.{admitted_of}

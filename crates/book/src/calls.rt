@@ -12,6 +12,7 @@ use super::Book;
 use super::ledger::Ledger;
 use super::types::{BookFault, Verdict};
 use documents::nodes::Node;
+use fitting::order::Order;
 use forms::FormSource;
 use relation::AdmissionFault;
 use verdicts::prepared::Prepared;
@@ -101,7 +102,7 @@ impl<S: FormSource> Book<S> {
         ensures source { self.new.source ≡ self.old.source }
         ensures meets { Meets self.old.pages (fit nodes.now root row marks.old) (fitted (outcome result) marks.new) self.new.pages }
     {
-        self.open_mut()?.fit(nodes, root, row, marks)
+        self.open_mut()?.fit(&Order { nodes, root }, row, marks)
     }
 
     // Holds no pair any more.

@@ -4,9 +4,7 @@ use book::types::BookFault;
 use documents::nodes::{MAX_NODES, Node};
 use documents::writer::write_document;
 use fitting::faults::FitFault;
-use forms::MAX_ROWS;
-use relation::offering::ROW_WORDS;
-use sets;
+use relation::offering::{ROW_WORDS, has};
 use std::process::Abort;
 use std::test::Fail;
 
@@ -81,10 +79,10 @@ fn not_shown(rt: HostRuntime) {
 }
 
 // The rows of the worked table that a node is marked for, as bits.
-fn marked(marks: &[u64], node: usize) -> u64 {
+fn marked(marks: &[u64], node: u16) -> u64 {
     let mut rows = 0;
     for row in 0..10 {
-        if sets::test(marks, node.saturating_mul(MAX_ROWS).saturating_add(row)) {
+        if has(marks, node, row) {
             rows |= 1 << row;
         }
     }

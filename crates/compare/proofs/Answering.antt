@@ -1,6 +1,6 @@
 -- The number that answers a question: it is one of 64 bits, and says what the rows have it say. Assumes nothing.
 use Rattle.std.proofs.Common.{◌≡◌, ℕ, ◌+◌, ◌^◌, ◌<◌, ◌≤◌, ◌⊎◌, ◌↔◌, List, ◌++◌, length, drop, Ok, Err, Result, sym, refl, ap, ◌∙◌, subst, inl, inr, ⊎_elim, arith}
-use Rattle.std.proofs.lemmas.Bool.{cases_lt, cases_eq}
+use Rattle.std.proofs.lemmas.Bool.{cases_lt}
 use Rattle.forms.specs.Limits.{max_rows}
 use Rattle.forms.specs.Refusals.{Refusal, Outcome, number, values}
 use Rattle.forms.specs.Refusals.Outcome.{refuses, gives}
@@ -16,7 +16,7 @@ use Rattle.relation.specs.Admission.{Finds}
 use Rattle.relation.specs.Admission.Finds.{no_rows, number_outside, label_twice}
 use Rattle.relation.proofs.Judging.{outside_below, sharing_below}
 use Rattle.schema.specs.Rules.{Included, Below}
-use Rattle.compare.specs.Comparing.{Refutes, room, Found, answer, Refused, Settled, Answers, Compares}
+use Rattle.compare.specs.Comparing.{Refutes, room, Found, answer, Refused, Settled, Answers, Tells, ZeroIsYes}
 use Rattle.compare.specs.Reasons.{TextsFail, TablesFail, RowsFail, Faulty, Comparable, together}
 use Rattle.compare.specs.Reasons.TextsFail.{our_text, their_text}
 use Rattle.compare.specs.Reasons.TablesFail.{our_table, their_table, too_many}
@@ -111,15 +111,36 @@ found_no rows p q before after (Ok Yes) (included, _, _) not = absurd (not inclu
 found_no rows p q before after (Ok (No k)) (_, text, refutes, fits, long, e) not = (text, refutes, λ _. (ap (λ x. Ok (No x)) long, e ∙ ap (λ x. text ++ drop x before) long), λ over. absurd (omega arith))
 found_no rows p q before after (Err e) (_, text, refutes, over, is, same) not = (text, refutes, λ fits. absurd (omega arith), λ _. (ap Err is, same))
 
--- the answer is 0 exactly if it is yes
-zero_is : (r : Result Finding CompareFault) → (answer r ≡ 0) ↔ (r ≡ Ok Yes)
-zero_is (Ok Yes) = (λ _. refl, λ _. refl)
-zero_is (Ok (No n)) = (λ e. absurd (omega arith), λ e. never (cc))
-zero_is (Err (Text side e)) = (λ z. absurd (omega arith), λ h. never (cc))
-zero_is (Err (Admission side e)) = (λ z. absurd (omega arith), λ h. never (cc))
-zero_is (Err (Joining e)) = (λ z. absurd (omega arith), λ h. never (cc))
-zero_is (Err (Asking side e)) = (λ z. absurd (omega arith), λ h. never (cc))
-zero_is (Err (Writing e)) = (λ z. absurd (omega arith), λ h. never (cc))
+yes_or_not : (r : Result Finding CompareFault) → (r ≡ Ok Yes) ⊎ (r ≡ Ok Yes → ⊥)
+yes_or_not (Ok Yes) = inl refl
+yes_or_not (Ok (No n)) = inr (λ e. never (cc))
+yes_or_not (Err e) = inr (λ h. never (cc))
+
+-- what is found is told by a short report
+abbrev Brief : Result Finding CompareFault → Type 0
+Brief (Ok Yes) = Unit {0}
+Brief (Ok (No n)) = Short (no_with n)
+Brief (Err e) = Short (report e)
+
+pub answer_low : (r : Result Finding CompareFault) → Brief r → answer r < 2 ^ 64
+answer_low (Ok Yes) _ = omega arith
+answer_low (Ok (No n)) s = s.fits
+answer_low (Err e) s = s.fits
+
+pub tells : (r : Result Finding CompareFault) → Brief r → (n : ℕ) → n ≡ answer r → Tells n r
+tells (Ok Yes) _ n is = is
+tells (Ok (No k)) s n is = says (no_with k) s n is
+tells (Err e) s n is = says (report e) s n is
+
+-- a report of a fault has a layer or a number
+pub zero_is_yes : ZeroIsYes
+zero_is_yes n (Ok Yes) is = (λ _. refl, λ _. is)
+zero_is_yes n (Ok (No k)) s = let is = s.is in (λ z. absurd (omega arith), λ e. never (cc))
+zero_is_yes n (Err (Text side e)) s = let is = s.is in (λ z. absurd (omega arith), λ h. never (cc))
+zero_is_yes n (Err (Admission side e)) s = let is = s.is in (λ z. absurd (omega arith), λ h. never (cc))
+zero_is_yes n (Err (Joining e)) s = let is = s.is in (λ z. absurd (omega arith), λ h. never (cc))
+zero_is_yes n (Err (Asking side e)) s = let is = s.is in (λ z. absurd (omega arith), λ h. never (cc))
+zero_is_yes n (Err (Writing e)) s = let is = s.is in (λ z. absurd (omega arith), λ h. never (cc))
 
 module _ (ours theirs : List ℕ) (p q t : ℕ) (before after : List ℕ) (r : Result Finding CompareFault) where
   pub answered : Refused ours theirs p q before after r ⊎ Settled ours theirs p q t before after r → Answers ours theirs p q t before after r
@@ -141,34 +162,13 @@ module _ (ours theirs : List ℕ) (p q t : ℕ) (before after : List ℕ) (r : R
       again : (v w : List Row) → Comparable ours theirs p q v w → Found (together v w t) p (length v + q) before after r
       again v w d = by_reading (λ x y. Found (together x y t) p (length x + q) before after r) ours theirs a b v w c.read d.read found
 
-  module _ (answers : Answers ours theirs p q t before after r) where
-    no_low : (a b : List Row) → Comparable ours theirs p q a b → (r ≡ Ok Yes → ⊥) → answer r < 2 ^ 64
-    no_low a b c not =
-        let (text, _, fits, over) = answers.no a b c (λ i. not ((answers.yes a b c).0.1 i)) in
-        ⊎_elim (λ long. subst (λ x. answer x < 2 ^ 64) (sym (over long).0) long_short.fits) (λ short. subst (λ x. answer x < 2 ^ 64) (sym (fits short).0) (no_short (length text) (omega arith)).fits) (cases_lt (room before) (length text))
-
-    pub answer_low : answer r < 2 ^ 64
-    answer_low = ⊎_elim
-        (λ (e, faulty). subst (λ x. answer x < 2 ^ 64) (sym (answers.fault e faulty).0) (fault_short ours theirs p q e faulty).fits)
-        (λ (a, b, c). ⊎_elim (λ zero. subst (λ x. x < 2 ^ 64) (sym zero) (omega arith)) (λ not. no_low a b c (λ yes. not ((zero_is r).1 yes))) (cases_eq (answer r) 0))
-        answers.either
-
-    pub compares : (n : ℕ) → n ≡ answer r → Compares ours theirs p q t before after n
-    compares n is = record {
-      either = answers.either;
-      fault = λ e faulty. let (as_fault, same) = answers.fault e faulty in (says (report e) (fault_short ours theirs p q e faulty) n (is ∙ ap answer as_fault), same);
-      yes = λ a b c. let (included, below) = answers.yes a b c in (
-        (λ z. included.0 (yes z), λ h. is ∙ (zero_is r).1 (included.1 h)),
-        (λ z. below.0 (yes z), λ h. is ∙ (zero_is r).1 (below.1 h)),
-      );
-      kept = λ z. answers.kept (yes z);
-      no = λ a b c not. let (text, refutes, fits, over) = answers.no a b c not in (
-        text,
-        refutes,
-        λ short. (says (no_with (length text)) (no_short (length text) (omega arith)) n (is ∙ ap answer (fits short).0), (fits short).1),
-        λ long. (says (report (Writing TooLong)) long_short n (is ∙ ap answer (over long).0), (over long).1),
-      );
-    }
-      where
-        yes : n ≡ 0 → r ≡ Ok Yes
-        yes z = (zero_is r).0 (sym is ∙ z)
+  pub brief : Answers ours theirs p q t before after r → Brief r
+  brief answers = ⊎_elim
+      (λ (e, faulty). subst Brief (sym (answers.fault e faulty).0) (fault_short ours theirs p q e faulty))
+      (λ (a, b, c). ⊎_elim
+      (λ yes. subst Brief (sym yes) tt)
+      (λ not.
+      let (text, _, fits, over) = answers.no a b c (λ included. not ((answers.yes a b c).0.1 included)) in
+      ⊎_elim (λ long. subst Brief (sym (over long).0) long_short) (λ short. subst Brief (sym (fits short).0) (no_short (length text) (omega arith))) (cases_lt (room before) (length text)))
+      (yes_or_not r))
+      answers.either

@@ -60,16 +60,16 @@ pub record Answers (ours theirs : List ℕ) (p q t : ℕ) (before after : List �
       × (length text ≤ room before → (r ≡ Ok (No (length text))) × (after ≡ text ++ drop (length text) before))
       × (room before < length text → (r ≡ Err (Writing TooLong)) × (after ≡ before))
 
+-- the number says what is found: yes, no with the length of a text, or which fault
+abbrev pub Tells : ℕ → Result Finding CompareFault → Type 0
+Tells n (Ok Yes) = n ≡ 0
+Tells n (Ok (No k)) = Says n (no_with k)
+Tells n (Err e) = Says n (report e)
+
 -- The same answer, as one number.
-pub record Compares (ours theirs : List ℕ) (p q t : ℕ) (before after : List ℕ) (r : ℕ) : Type 0 where
-  -- there is a fault, or the rows can be compared
-  pub either : ((e : CompareFault) × Faulty ours theirs p q e) ⊎ ((a b : List Row) × Comparable ours theirs p q a b)
-  pub fault : (e : CompareFault) → Faulty ours theirs p q e → Says r (report e) × (after ≡ before)
-  -- yes is 0: every document that fits row p of ours fits row q of theirs; and so it is if the one row is below the other
-  pub yes : (a b : List Row) → Comparable ours theirs p q a b → ((r ≡ 0) ↔ Included (together a b t) p (length a + q)) × ((r ≡ 0) ↔ Below (together a b t) p (length a + q))
-  pub kept : r ≡ 0 → after ≡ before
-  -- no is the length of a text, which the buffer begins with; or the text is too long
-  pub no : (a b : List Row) → Comparable ours theirs p q a b → (Included (together a b t) p (length a + q) → ⊥) →
-      (text : List ℕ) × Refutes (together a b t) p (length a + q) text
-      × (length text ≤ room before → Says r (no_with (length text)) × (after ≡ text ++ drop (length text) before))
-      × (room before < length text → Says r (report (Writing TooLong)) × (after ≡ before))
+abbrev pub Compares : List ℕ → List ℕ → ℕ → ℕ → ℕ → List ℕ → List ℕ → ℕ → Type 0
+Compares ours theirs p q t before after n = (r : Result Finding CompareFault) × Answers ours theirs p q t before after r × Tells n r
+
+-- The number is 0 exactly if yes is found.
+abbrev pub ZeroIsYes : Type 0
+ZeroIsYes = (n : ℕ) (r : Result Finding CompareFault) → Tells n r → (n ≡ 0) ↔ (r ≡ Ok Yes)

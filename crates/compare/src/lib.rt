@@ -2,7 +2,7 @@
 #![tactic(auto)]
 
 ghost use Rattle.relation.specs.Sources.{JoinedIsAdmitted, TurnedIsAdmitted};
-ghost use Rattle.compare.specs.Comparing.{Answers, Compares};
+ghost use Rattle.compare.specs.Comparing.{Answers, Compares, ZeroIsYes};
 ghost use Rattle.compare.specs.Reasons.{OneFault, FaultOrAnswer, OneMeaning};
 
 pub mod comparing;
@@ -34,7 +34,7 @@ pub fn question(
 // As it is: a program in C hands over and takes numbers.
 pub fn compare(ours: &[u8], theirs: &[u8], p: u64, q: u64, t: u64, buffer: &mut [u8]) -> u64
     ensures compares { Compares ours.now theirs.now p q t buffer.old buffer.new result }
-    ensures laws { (OneFault) × ((FaultOrAnswer) × ((OneMeaning) × ((JoinedIsAdmitted) × (TurnedIsAdmitted)))) }
+    ensures laws { (ZeroIsYes) × ((OneFault) × ((FaultOrAnswer) × ((OneMeaning) × ((JoinedIsAdmitted) × (TurnedIsAdmitted))))) }
 {
     number(question(ours, theirs, p, q, t, buffer))
 }

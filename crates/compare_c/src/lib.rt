@@ -3,7 +3,7 @@
 
 ghost use Rattle.std.specs.Prelude.{◌≡◌};
 ghost use Rattle.relation.specs.Sources.{JoinedIsAdmitted, TurnedIsAdmitted};
-ghost use Rattle.compare.specs.Comparing.{Compares};
+ghost use Rattle.compare.specs.Comparing.{Compares, ZeroIsYes};
 ghost use Rattle.compare.specs.Reasons.{OneFault, FaultOrAnswer, OneMeaning};
 
 // What the library's compare answers: see crates/compare.
@@ -17,7 +17,7 @@ pub extern "C" fn compare(
     buffer: &mut [u8],
 ) -> u64
     ensures compares { Compares ours.now theirs.now p q t buffer.old buffer.new result }
-    ensures laws { (OneFault) × ((FaultOrAnswer) × ((OneMeaning) × ((JoinedIsAdmitted) × (TurnedIsAdmitted)))) }
+    ensures laws { (ZeroIsYes) × ((OneFault) × ((FaultOrAnswer) × ((OneMeaning) × ((JoinedIsAdmitted) × (TurnedIsAdmitted))))) }
 {
     compare::compare(ours, theirs, p, q, t, buffer)
 }

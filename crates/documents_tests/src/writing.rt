@@ -102,14 +102,21 @@ fn many_nodes(rt: HostRuntime) {
     );
 }
 
+// As many nodes as a table has: void, and each further one made of the number of the one before.
+fn chain<F: Fn(u16) -> Node>(after: F) -> [Node; MAX_NODES]
+    requires { F.IsAlwaysCallable after }
+{
+    let mut nodes = [Node::Void; MAX_NODES];
+    for (before, node) in (0u16..).zip(nodes.iter_mut().skip(1)) {
+        *node = after(before);
+    }
+    nodes
+}
+
 // Each node uses the one before twice, so that the text of the last would have some 2^4159 bytes.
 #[test]
 fn a_text_longer_than_the_universe(rt: HostRuntime) -> Result<(), Fail> {
-    let mut nodes = [Node::Void; MAX_NODES];
-    for k in 1..MAX_NODES {
-        let before = (k - 1) as u16;
-        nodes[k] = element(1, before, before);
-    }
+    let nodes = chain(|before| element(1, before, before));
     let mut buffer = [b'.'; MAX_DOCUMENT];
     assert_eq!(rt;
         write_document(&nodes, MAX_NODES - 1, &mut buffer),
@@ -127,23 +134,15 @@ fn a_text_longer_than_the_universe(rt: HostRuntime) -> Result<(), Fail> {
 // 4,160 nodes in a row, and 4,160 nodes in one another, which is deeper than reading goes.
 #[test]
 fn long_and_deep(rt: HostRuntime) -> Result<(), Fail> {
-    let mut nodes = [Node::Void; MAX_NODES];
-    for k in 1..MAX_NODES {
-        nodes[k] = element(1, 0, (k - 1) as u16);
-    }
+    let row = chain(|before| element(1, 0, before));
     let mut buffer = [b'.'; MAX_DOCUMENT];
-    assert_eq!(rt;
-        write_document(&nodes, MAX_NODES - 1, &mut buffer),
-        Ok(16635)
-    );
+    assert_eq!(rt; write_document(&row, MAX_NODES - 1, &mut buffer), Ok(16635));
     let mut back = [Node::Void; MAX_NODES];
     assert_eq!(rt; read_document(&buffer[0..16635], &mut back), Ok(MAX_NODES));
-    assert!(rt; back == nodes);
-    for k in 1..MAX_NODES {
-        nodes[k] = element(1, (k - 1) as u16, 0);
-    }
+    assert!(rt; back == row);
+    let deep = chain(|before| element(1, before, 0));
     assert_eq!(rt;
-        write_document(&nodes, MAX_NODES - 1, &mut buffer),
+        write_document(&deep, MAX_NODES - 1, &mut buffer),
         Ok(12477)
     );
     assert_eq!(rt;

@@ -1,8 +1,9 @@
 -- What is found of a row is found only of rows of the table. Assumes nothing.
-use Rattle.std.proofs.Common.{◌≡◌, ℕ, ◌^◌, ◌<◌, ◌≤◌, Bool, true, ltb, List, length, sym, ◌∙◌, ⊎_elim, arith}
+use Rattle.std.proofs.Common.{◌≡◌, ℕ, ◌^◌, ◌<◌, Bool, true, List, [], ◌∷◌, length, sym, ◌∙◌, ⊎_elim, arith}
 use Rattle.std.specs.List.{slice_get}
-use Rattle.std.proofs.lemmas.Bool.{cases_Bool, le-ltb}
+use Rattle.std.proofs.lemmas.Bool.{cases_Bool, cases_lt}
 use Rattle.sets.specs.Sets.{member}
+use Rattle.sets.proofs.Membership.{member_at, member_past}
 use Rattle.forms.specs.Limits.{label_count}
 use Rattle.forms.specs.Rows.{belongs}
 use Rattle.forms.specs.Schema.{Offers, Inhabited, IsChannel}
@@ -33,6 +34,9 @@ module _ (rows : List Row) where
   abbrev pub Holding : (ℕ → ℕ → Bool) → ℕ → ℕ → ℕ → ℕ → Type 0
   Holding M x a b e = holds M x a b (slice_get rows e) ≡ true
 
--- a label set has no other labels than those that there are
-pub no_label : (labels label : ℕ) → labels < 2 ^ label_count → label_count ≤ label → ltb label label_count ≡ belongs label labels
-no_label labels label fit past = le-ltb label label_count past ∙ ⊎_elim (λ on. absurd (let low = label_below label labels fit on in omega arith)) sym (cases_Bool (belongs label labels))
+-- a label set is a set of one word
+pub one_word : (labels label : ℕ) → labels < 2 ^ label_count → member (labels ∷ []) label ≡ belongs label labels
+one_word labels label fit = ⊎_elim
+    (λ low. member_at (labels ∷ []) 0 label label low (omega arith) (omega arith))
+    (λ past. member_past (labels ∷ []) label (omega arith) ∙ ⊎_elim (λ on. absurd (let low = label_below label labels fit on in omega arith)) sym (cases_Bool (belongs label labels)))
+    (cases_lt label label_count)

@@ -2,7 +2,7 @@
 use Rattle.std.proofs.Common.{◌≡◌, ℕ, ◌+◌, ◌<◌, true, false, ◌||◌, eqb, List, replicate, Decides, sym, ◌∙◌, subst, ⊎_elim, arith}
 use Rattle.std.proofs.lemmas.Bool.{both_ways, cases_Bool, cases_eq, eq-eqb, eqb-true, or_cases, or_left, or_right}
 use Rattle.sets.specs.Sets.{member}
-use Rattle.relation.proofs.Reaching.{zeros_none}
+use Rattle.sets.proofs.Membership.{zeros_none}
 
 module _ (Hit Miss : ℕ → Type 0) where
   -- the numbers below i: those in the set passed, and the others did not

@@ -11,7 +11,7 @@ use Rattle.forms.specs.declared.Row.{Row}
 use Rattle.forms.proofs.Findings.{nth_below}
 use Rattle.documents.specs.declared.nodes.Node.{Node}
 use Rattle.documents.specs.declared.nodes.Node.TheVariants.{Void, Reference}
-use Rattle.relation.proofs.Reaching.{zeros_none}
+use Rattle.sets.proofs.Membership.{zeros_none}
 use Rattle.schema.proofs.Offered.{at_below}
 use Rattle.verdicts.specs.Pairs.{related}
 use Rattle.verdicts.proofs.Deciding.{between_parts, between_from, place_div, place_mod}

@@ -8,6 +8,7 @@ ghost use Rattle.fitting.specs.Fittable.{UnsoundOver, Fittable, Unfit, FittableO
 ghost use Rattle.verdicts.specs.Tables.{rows_in};
 
 use super::faults::FitFault;
+use super::order::Order;
 use documents::nodes::{MAX_NODES, Node};
 use forms::{LABELS, Row};
 use relation::offering::ROW_WORDS;
@@ -43,11 +44,12 @@ fn unsound(prepared: &Prepared, nodes: &[Node]) -> Option<usize>
     None
 }
 
-// Whether a table of nodes can be fitted, or why not: the earlier case first.
-pub fn check(prepared: &Prepared, nodes: &[Node], root: usize, marks: usize) -> Result<(), FitFault>
-    ensures checked { MatchResult result (λ _. Fittable (rows_in prepared.now) nodes.now root marks) (λ e. Unfit (rows_in prepared.now) nodes.now root marks (fit_refusal e)) }
+// Whether an order can be fitted, or why not: the earlier case first.
+pub fn check(prepared: &Prepared, order: &Order, marks: usize) -> Result<(), FitFault>
+    ensures checked { MatchResult result (λ _. Fittable (rows_in prepared.now) order.now.nodes.now order.now.root marks) (λ e. Unfit (rows_in prepared.now) order.now.nodes.now order.now.root marks (fit_refusal e)) }
     ensures one { FittableOrOneFault }
 {
+    let Order { nodes, root } = *order;
     if nodes.len() > MAX_NODES {
         return Err(FitFault::ManyNodes);
     }

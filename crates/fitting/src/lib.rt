@@ -4,5 +4,6 @@
 pub mod checking;
 pub mod faults;
 pub mod marking;
+pub mod order;
 pub mod rows;
 pub mod wanting;

@@ -14,6 +14,7 @@ ghost use Rattle.verdicts.specs.Tables.{rows_in, count_in};
 
 use super::checking::check;
 use super::faults::FitFault;
+use super::order::Order;
 use super::rows::{channel_rows, element_rows, holding_rows, paired_rows, void_rows};
 use documents::nodes::Node;
 use relation::offering::{ROW_WORDS, has};
@@ -75,17 +76,16 @@ fn mark_nodes(prepared: &Prepared, pairs: &[u64], nodes: &[Node], marks: &mut [u
 pub fn mark(
     prepared: &Prepared,
     pairs: &[u64],
-    nodes: &[Node],
-    root: usize,
+    order: &Order,
     row: u8,
     marks: &mut [u64],
 ) -> Result<bool, FitFault>
-    ensures checked { MatchResult result (λ _. Fittable (rows_in prepared.now) nodes.now root (length marks.old)) (λ e. Unfit (rows_in prepared.now) nodes.now root (length marks.old) (fit_refusal e)) }
-    ensures marked { MatchResult result (λ _. Marked (rows_in prepared.now) (Among (count_in prepared.now) pairs.now) nodes.now marks.new) (λ _. marks.new ≡ marks.old) }
-    ensures told { IfOk result (TellsRoot (rows_in prepared.now) (Among (count_in prepared.now) pairs.now) nodes.now root row) }
+    ensures checked { MatchResult result (λ _. Fittable (rows_in prepared.now) order.now.nodes.now order.now.root (length marks.old)) (λ e. Unfit (rows_in prepared.now) order.now.nodes.now order.now.root (length marks.old) (fit_refusal e)) }
+    ensures marked { MatchResult result (λ _. Marked (rows_in prepared.now) (Among (count_in prepared.now) pairs.now) order.now.nodes.now marks.new) (λ _. marks.new ≡ marks.old) }
+    ensures told { IfOk result (TellsRoot (rows_in prepared.now) (Among (count_in prepared.now) pairs.now) order.now.nodes.now order.now.root row) }
     ensures length { length marks.new ≡ length marks.old }
 {
-    check(prepared, nodes, root, marks.len())?;
-    mark_nodes(prepared, pairs, nodes, marks);
-    Ok(has(marks, root as u16, row))
+    check(prepared, order, marks.len())?;
+    mark_nodes(prepared, pairs, order.nodes, marks);
+    Ok(has(marks, order.root as u16, row))
 }

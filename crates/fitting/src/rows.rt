@@ -9,7 +9,7 @@ ghost use Rattle.verdicts.specs.Ready.{in_row, IsElement};
 ghost use Rattle.fitting.specs.Marks.{Among, holds};
 ghost use Rattle.verdicts.specs.Tables.{rows_in, count_in};
 
-use forms::{LABELS, Row};
+use forms::Row;
 use relation::offering::{ROW_WORDS, has};
 use sets;
 use verdicts::prepared::Prepared;
@@ -65,11 +65,11 @@ pub(crate) fn element_rows(prepared: &Prepared, some: &[u64]) -> [u64; ROW_WORDS
     )
 }
 
-// Whether the label belongs to the label set.
+// Whether the label belongs to the label set, which is a set of one word.
 fn has_label(labels: u64, label: u8) -> bool
     ensures { result ≡ belongs label labels }
 {
-    label < LABELS && (labels >> label) % 2 == 1
+    sets::test(&[labels], label as usize)
 }
 
 // Whether it is an element row with the label, whose inside is marked for one node and whose following for another.

@@ -1,9 +1,10 @@
 // formbook check: what each row of a table is.
+use super::faults::Fault;
 use super::phrases;
 use relation::admission::admit;
 use relation::analysis::Analysis;
 use relation::offering::ROW_WORDS;
-use std::{fs, io};
+use std::{fmt, fs, io};
 use texts::RowText;
 
 fn print_table(rt: &HostRuntime, table: &RowText, analysis: &Analysis) -> anyhow::Result<()> {
@@ -23,71 +24,62 @@ fn print_table(rt: &HostRuntime, table: &RowText, analysis: &Analysis) -> anyhow
     Ok(())
 }
 
-// What was read from a file; if that failed, says why.
+// What was read from a file, or that it cannot be read.
 pub(crate) fn opened<T: Drop>(
     rt: &HostRuntime,
     path: &str,
     read: io::Result<T>,
-) -> anyhow::Result<Option<T>> {
+) -> Result<T, Fault> {
     match read {
-        Ok(text) => Ok(Some(text)),
-        Err(error) => {
-            println!(rt; "{path}: the file cannot be read: {error}")?;
-            Ok(None)
-        }
+        Ok(text) => Ok(text),
+        Err(error) => Err(Fault::Refused(format!(in rt.alloc();
+            "{path}: the file cannot be read: {error}"
+        )?)),
     }
 }
 
-// Reads a table from a file; if that fails, says why.
-// As it is: an error would end the program, and after a table that cannot be read the next table or command of a batch still runs.
-pub(crate) fn load(rt: &HostRuntime, path: &str) -> anyhow::Result<Option<RowText>> {
-    let Some(bytes) = opened(rt, path, fs::read(rt, path))? else {
-        return Ok(None);
-    };
-    match RowText::read(&bytes) {
-        Ok(table) => Ok(Some(table)),
-        Err(fault) => {
-            println!(rt; "{path}: {fault}")?;
-            Ok(None)
-        }
+// The fault that is found in the table of a file.
+pub(crate) fn refused<E: fmt::Display + Drop>(rt: &HostRuntime, path: &str, fault: E) -> Fault {
+    match format!(in rt.alloc(); "{path}: {fault}") {
+        Ok(why) => Fault::Refused(why),
+        Err(error) => Fault::from(error),
     }
 }
 
-// Runs a command on each word in turn; answers whether all went well.
-pub(crate) fn each<F: Fn(&HostRuntime, &str) -> anyhow::Result<bool>>(
+// Reads a table from a file.
+pub(crate) fn load(rt: &HostRuntime, path: &str) -> Result<RowText, Fault> {
+    let bytes = opened(rt, path, fs::read(rt, path))?;
+    RowText::read(&bytes).map_err(|fault| refused(rt, path, fault))
+}
+
+// Runs a command on each word in turn. Where it does not go well, it says why, and the next word's turn comes.
+pub(crate) fn each<F: Fn(&HostRuntime, &str) -> Result<(), Fault>>(
     rt: &HostRuntime,
     words: &[&str],
     command: F,
-) -> anyhow::Result<bool>
+) -> Result<(), Fault>
     requires { F.IsAlwaysCallable command }
 {
-    let mut all = true;
+    let mut all = Ok(());
     for word in words {
-        let well = command(rt, word)?;
-        all = all && well;
-    }
-    Ok(all)
-}
-
-fn check_one(rt: &HostRuntime, path: &str) -> anyhow::Result<bool> {
-    let Some(table) = load(rt, path)? else {
-        return Ok(false);
-    };
-    match admit(&table) {
-        Ok(analysis) => {
-            let count = table.rows().len();
-            println!(rt; "{path}: admitted, {count} rows")?;
-            print_table(rt, &table, &analysis)?;
-            Ok(true)
-        }
-        Err(fault) => {
-            println!(rt; "{path}: {fault}")?;
-            Ok(false)
+        if let Err(fault) = command(rt, word) {
+            fault.say(rt)?;
+            all = Err(Fault::Said);
         }
     }
+    all
 }
 
-// Each table in turn; answers whether all are admitted.
-pub(crate) fn check(rt: &HostRuntime, paths: &[&str]) -> anyhow::Result<bool> {
+fn check_one(rt: &HostRuntime, path: &str) -> Result<(), Fault> {
+    let table = load(rt, path)?;
+    let analysis = admit(&table).map_err(|fault| refused(rt, path, fault))?;
+    let count = table.rows().len();
+    println!(rt; "{path}: admitted, {count} rows")?;
+    print_table(rt, &table, &analysis)?;
+    Ok(())
+}
+
+// Each table in turn.
+pub(crate) fn check(rt: &HostRuntime, paths: &[&str]) -> Result<(), Fault> {
     each(rt, paths, |rt, path| check_one(rt, path))
 }

@@ -1,5 +1,6 @@
 // formbook compare and formbook button: whether a factory can read every order that we can write.
 use super::checking::{each, opened};
+use super::faults::Fault;
 use super::joining::turning;
 use super::ordering;
 use compare::comparing::Finding;
@@ -7,6 +8,7 @@ use compare::faults::{CompareFault, Side};
 use compare::question;
 use documents::nodes::{MAX_DOCUMENT, MAX_NODES, Node};
 use forms::FormSource;
+use std::alloc::{AllocError, Global};
 use std::fs;
 use std::io::Write;
 use texts::RowText;
@@ -69,44 +71,50 @@ impl<'a> Comparison<'a> {
     }
 
     // Why there is no answer: which table is at fault, where and why.
-    fn print_fault(&self, rt: &HostRuntime, fault: CompareFault) -> anyhow::Result<()> {
+    fn explained(&self, heap: Global, fault: CompareFault) -> Result<String, AllocError> {
         match fault {
             CompareFault::Text(side, fault) => {
                 let path = self.path(side);
-                println!(rt; "no answer: {side} table {path}: {fault}")?;
+                format!(in heap; "no answer: {side} table {path}: {fault}")
             }
             CompareFault::Admission(side, fault) => {
                 let path = self.path(side);
-                println!(rt; "no answer: {side} table {path}: {fault}")?;
+                format!(in heap; "no answer: {side} table {path}: {fault}")
             }
-            CompareFault::Writing(_) => println!(rt; "GREY, but {fault}")?,
-            _ => println!(rt; "{fault}")?,
+            CompareFault::Writing(_) => format!(in heap; "GREY, but {fault}"),
+            _ => format!(in heap; "{fault}"),
         }
-        Ok(())
     }
 
-    // The answer in words; true if there is one.
-    fn ask(&self, rt: &HostRuntime) -> anyhow::Result<bool> {
-        let ours = opened(rt, self.ours, fs::read(rt, self.ours))?;
-        let theirs = opened(rt, self.theirs, fs::read(rt, self.theirs))?;
-        let (Some(ours), Some(theirs)) = (ours, theirs) else {
-            return Ok(false);
-        };
+    // The answer in words.
+    fn answer(&self, rt: &HostRuntime, ours: &[u8], theirs: &[u8]) -> Result<(), Fault> {
         let mut buffer = [0u8; MAX_DOCUMENT];
         let turned = self.turned as u64;
-        match question(&ours, &theirs, self.p, self.q, turned, &mut buffer) {
+        match question(ours, theirs, self.p, self.q, turned, &mut buffer) {
             Ok(Finding::Yes) => {
                 println!(rt; "GREEN: every order that we can write is one that they can read")?;
-                Ok(true)
+                Ok(())
             }
             Ok(Finding::No { length }) => {
                 let text = buffer.get(..length).unwrap_or(&[]);
-                print_grey(rt, text, RowText::new(&ours).count())?;
-                Ok(true)
+                print_grey(rt, text, RowText::new(ours).count())?;
+                Ok(())
             }
-            Err(fault) => {
-                self.print_fault(rt, fault)?;
-                Ok(false)
+            Err(fault) => Err(Fault::Refused(self.explained(rt.alloc(), fault)?)),
+        }
+    }
+
+    // The same of the tables in their files. Where neither can be read, it is said of both.
+    fn ask(&self, rt: &HostRuntime) -> Result<(), Fault> {
+        let ours = opened(rt, self.ours, fs::read(rt, self.ours));
+        let theirs = opened(rt, self.theirs, fs::read(rt, self.theirs));
+        match (ours, theirs) {
+            (Ok(ours), Ok(theirs)) => self.answer(rt, &ours, &theirs),
+            (Ok(_ours), Err(fault)) => Err(fault),
+            (Err(fault), Ok(_theirs)) => Err(fault),
+            (Err(first), Err(second)) => {
+                first.say(rt)?;
+                Err(second)
             }
         }
     }
@@ -118,17 +126,19 @@ pub(crate) fn compare_tables(
     tables: (&str, &str),
     rows: (&str, &str),
     more: &[&str],
-) -> anyhow::Result<bool> {
+) -> Result<(), Fault> {
     let (turned, rest) = turning(more);
     if !rest.is_empty() {
-        println!(rt; "only --turn may follow the two tables and the two rows")?;
-        return Ok(false);
+        return Err(Fault::Refused(format!(in rt.alloc();
+            "only --turn may follow the two tables and the two rows"
+        )?));
     }
     let (ours, theirs) = tables;
     let (first, second) = rows;
     let (Ok(p), Ok(q)) = (first.parse::<u64>(), second.parse::<u64>()) else {
-        println!(rt; "{first} {second}: two row numbers are asked for")?;
-        return Ok(false);
+        return Err(Fault::Refused(format!(in rt.alloc();
+            "{first} {second}: two row numbers are asked for"
+        )?));
     };
     let comparison = Comparison {
         ours,
@@ -141,14 +151,16 @@ pub(crate) fn compare_tables(
 }
 
 // A factory: its table and the row of its orders, as TABLE:ROW.
-fn push_button(rt: &HostRuntime, ours: &str, p: u64, word: &str) -> anyhow::Result<bool> {
+fn push_button(rt: &HostRuntime, ours: &str, p: u64, word: &str) -> Result<(), Fault> {
     let Some((theirs, row)) = word.split_once(":") else {
-        println!(rt; "{word}: a table, a colon and a row number are asked for")?;
-        return Ok(false);
+        return Err(Fault::Refused(format!(in rt.alloc();
+            "{word}: a table, a colon and a row number are asked for"
+        )?));
     };
     let Ok(q) = row.parse::<u64>() else {
-        println!(rt; "{word}: a row number is asked for after the colon")?;
-        return Ok(false);
+        return Err(Fault::Refused(format!(in rt.alloc();
+            "{word}: a row number is asked for after the colon"
+        )?));
     };
     print!(rt; "{theirs}: ")?;
     let comparison = Comparison {
@@ -167,10 +179,9 @@ pub(crate) fn button(
     ours: &str,
     first: &str,
     factories: &[&str],
-) -> anyhow::Result<bool> {
+) -> Result<(), Fault> {
     let Ok(p) = first.parse::<u64>() else {
-        println!(rt; "{first}: a row number is asked for")?;
-        return Ok(false);
+        return Err(Fault::Refused(format!(in rt.alloc(); "{first}: a row number is asked for")?));
     };
     each(
         rt,

@@ -1,5 +1,6 @@
 // formbook verdicts: which rows of a table are below which.
-use super::checking::{each, load};
+use super::checking::{each, load, refused};
+use super::faults::Fault;
 use super::phrases;
 use texts::RowText;
 use verdicts::prepared::Prepared;
@@ -51,27 +52,18 @@ fn print_square(rt: &HostRuntime, prepared: &Prepared) -> anyhow::Result<()> {
     Ok(())
 }
 
-fn verdicts_of(rt: &HostRuntime, path: &str) -> anyhow::Result<bool> {
-    let Some(table) = load(rt, path)? else {
-        return Ok(false);
-    };
-    match Prepared::of(&table) {
-        Ok(prepared) => {
-            println!(rt;
-                "{path}: Y where every order that fits the row at the left fits the row at the top"
-            )?;
-            print_rows(rt, &table)?;
-            print_square(rt, &prepared)?;
-            Ok(true)
-        }
-        Err(fault) => {
-            println!(rt; "{path}: {fault}")?;
-            Ok(false)
-        }
-    }
+fn verdicts_of(rt: &HostRuntime, path: &str) -> Result<(), Fault> {
+    let table = load(rt, path)?;
+    let prepared = Prepared::of(&table).map_err(|fault| refused(rt, path, fault))?;
+    println!(rt;
+        "{path}: Y where every order that fits the row at the left fits the row at the top"
+    )?;
+    print_rows(rt, &table)?;
+    print_square(rt, &prepared)?;
+    Ok(())
 }
 
-// Each table in turn; answers whether all are admitted.
-pub(crate) fn verdicts(rt: &HostRuntime, paths: &[&str]) -> anyhow::Result<bool> {
+// Each table in turn.
+pub(crate) fn verdicts(rt: &HostRuntime, paths: &[&str]) -> Result<(), Fault> {
     each(rt, paths, |rt, path| verdicts_of(rt, path))
 }

@@ -1,23 +1,21 @@
 // formbook join: two tables side by side as one.
-use super::checking::load;
+use super::checking::{load, refused};
+use super::faults::Fault;
 use forms::makes::{Joined, Turned};
 use forms::{FormSource, MAX_ROWS};
 use std::io::Write;
 use texts::writing::write_rows;
 use texts::{MAX_TEXT, RowText};
 
-fn print_source<S: FormSource>(rt: &HostRuntime, source: &S) -> anyhow::Result<bool> {
+fn print_source<S: FormSource>(rt: &HostRuntime, source: &S) -> Result<(), Fault> {
     let mut buffer = [0u8; MAX_TEXT];
-    match write_rows(source, &mut buffer) {
-        Ok(length) => {
-            rt.stdout().write_all(buffer.get(..length).unwrap_or(&[]))?;
-            Ok(true)
-        }
-        Err(fault) => {
-            println!(rt; "the joined table: {fault}")?;
-            Ok(false)
-        }
-    }
+    let length = write_rows(source, &mut buffer).map_err(|fault| refused(
+        rt,
+        "the joined table",
+        fault,
+    ))?;
+    rt.stdout().write_all(buffer.get(..length).unwrap_or(&[]))?;
+    Ok(())
 }
 
 fn join_tables(
@@ -25,14 +23,13 @@ fn join_tables(
     first: RowText,
     second: RowText,
     turned: bool,
-) -> anyhow::Result<bool> {
+) -> Result<(), Fault> {
     let ours = first.count();
     let theirs = second.count();
     if ours + theirs > MAX_ROWS {
-        println!(rt;
+        return Err(Fault::Refused(format!(in rt.alloc();
             "the tables cannot be joined: they have {ours} and {theirs} rows, and {MAX_ROWS} is the most together"
-        )?;
-        return Ok(false);
+        )?));
     }
     if turned {
         let second = Turned { source: second };
@@ -51,22 +48,14 @@ pub(crate) fn turning<'a, 'b>(words: &'a [&'b str]) -> (bool, &'a [&'b str]) {
 }
 
 // Two tables, and --turn if the second is to be turned.
-pub(crate) fn join(
-    rt: &HostRuntime,
-    ours: &str,
-    theirs: &str,
-    more: &[&str],
-) -> anyhow::Result<bool> {
+pub(crate) fn join(rt: &HostRuntime, ours: &str, theirs: &str, more: &[&str]) -> Result<(), Fault> {
     let (turned, rest) = turning(more);
     if let [word, ..] = rest {
-        println!(rt; "{word}: only --turn may follow the two tables")?;
-        return Ok(false);
+        return Err(Fault::Refused(format!(in rt.alloc();
+            "{word}: only --turn may follow the two tables"
+        )?));
     }
-    let Some(first) = load(rt, ours)? else {
-        return Ok(false);
-    };
-    let Some(second) = load(rt, theirs)? else {
-        return Ok(false);
-    };
+    let first = load(rt, ours)?;
+    let second = load(rt, theirs)?;
     join_tables(rt, first, second, turned)
 }

@@ -2,11 +2,13 @@
 #![tactic(auto)]
 
 use anyhow::anyhow;
+use faults::Fault;
 use std::{env, fs};
 
 mod checking;
 mod comparing;
 mod deciding;
+mod faults;
 mod joining;
 mod ordering;
 mod phrases;
@@ -23,11 +25,10 @@ const USAGE: &str = "formbook: tables of forms, and the orders that fit them
   formbook order TEXT              prints an order as a tree and as its table of nodes
   formbook batch FILE              runs the commands in a file, one a line
 
-A TABLE is a file of row text (docs/FORMATS.md has the formats, docs/REFUSALS.md the refusals).
-";
+A TABLE is a file of row text (docs/FORMATS.md has the formats, docs/REFUSALS.md the refusals).";
 
-// The words of a command. It answers whether all went well.
-fn run(rt: &HostRuntime, words: &[&str]) -> anyhow::Result<bool> {
+// The words of a command.
+fn run(rt: &HostRuntime, words: &[&str]) -> Result<(), Fault> {
     match words {
         ["check", paths @ ..] if !paths.is_empty() => checking::check(rt, paths),
         ["join", ours, theirs, more @ ..] if more.len() < 2 => {
@@ -43,10 +44,11 @@ fn run(rt: &HostRuntime, words: &[&str]) -> anyhow::Result<bool> {
         }
         ["order"] => ordering::order(rt, ""),
         ["order", text] => ordering::order(rt, text),
-        _ => {
-            print!(rt; "{USAGE}")?;
-            Ok(words.is_empty())
+        [] => {
+            println!(rt; "{USAGE}")?;
+            Ok(())
         }
+        _ => Err(Fault::Refused(format!(in rt.alloc(); "{USAGE}")?)),
     }
 }
 
@@ -57,18 +59,20 @@ fn run_line(rt: &HostRuntime, line: &str) -> anyhow::Result<()> {
     }
     println!(rt; "$ formbook {line}")?;
     let words: Vec<&str> = line.split_whitespace().collect(rt.alloc())?;
-    let _ = run(rt, &words)?;
+    if let Err(fault) = run(rt, &words) {
+        fault.say(rt)?;
+    }
     println!(rt)?;
     Ok(())
 }
 
 // Each line of a file is a command.
-fn batch(rt: &HostRuntime, path: &str) -> anyhow::Result<bool> {
+fn batch(rt: &HostRuntime, path: &str) -> Result<(), Fault> {
     let text = fs::read_to_string(rt, path)?;
     for line in text.as_str().lines() {
         run_line(rt, line)?;
     }
-    Ok(true)
+    Ok(())
 }
 
 fn main(rt: HostRuntime) -> anyhow::Result<()> {
@@ -78,13 +82,13 @@ fn main(rt: HostRuntime) -> anyhow::Result<()> {
         owned.push(word)?;
     }
     let words: Vec<&str> = owned.iter().map(|word| word.as_str()).collect(rt.alloc())?;
-    let well = match words.as_slice() {
-        ["batch", path] => batch(&rt, path)?,
-        words => run(&rt, words)?,
+    let ran = match words.as_slice() {
+        ["batch", path] => batch(&rt, path),
+        words => run(&rt, words),
     };
-    if well {
-        Ok(())
-    } else {
-        Err(anyhow!("not all went well"))
+    if let Err(fault) = ran {
+        fault.say(&rt)?;
+        return Err(anyhow!("not all went well"));
     }
+    Ok(())
 }

@@ -1,8 +1,10 @@
 // formbook order: an order as a tree and as its table of nodes.
+use super::faults::Fault;
 use documents::faults::ReadFault;
 use documents::nodes::{MAX_NODES, Node};
 use documents::reader::read_document;
 use forms::refusals::Refused;
+use std::alloc::{AllocError, Global};
 
 // The document of the last node, a line for each element and reference, what is inside an element two deeper.
 pub(crate) fn print_tree(rt: &HostRuntime, nodes: &[Node], indent: usize) -> anyhow::Result<()> {
@@ -55,18 +57,19 @@ fn print_nodes(rt: &HostRuntime, nodes: &[Node]) -> anyhow::Result<()> {
 }
 
 // Why a text is no order, and a caret under the place.
-pub(crate) fn print_fault(rt: &HostRuntime, text: &str, fault: ReadFault) -> anyhow::Result<()> {
-    match fault {
+pub(crate) fn explained(heap: Global, text: &str, fault: ReadFault) -> Result<String, AllocError> {
+    let mut why = match fault {
         ReadFault::Wrong { place } if place >= text.len() => {
             let number = fault.number();
-            println!(rt; "this is no order ({number}): it ends too early, at place {place}")?;
+            format!(in heap; "this is no order ({number}): it ends too early, at place {place}")?
         }
-        _ => println!(rt; "{fault}")?,
-    }
+        _ => format!(in heap; "{fault}")?,
+    };
     if let ReadFault::Wrong { place } | ReadFault::TooDeep { place } = fault {
-        println!(rt; "  {text}\n  {:place$}^", "")?;
+        let caret = format!(in heap; "\n  {text}\n  {:place$}^", "")?;
+        why.push_str(caret.as_str())?;
     }
-    Ok(())
+    Ok(why)
 }
 
 // Reads an order into room for its nodes, and answers those that it takes.
@@ -75,18 +78,15 @@ pub(crate) fn read_nodes<'a>(text: &[u8], room: &'a mut [Node]) -> Result<&'a [N
     Ok(room.get(..count).unwrap_or(&[]))
 }
 
-pub(crate) fn order(rt: &HostRuntime, text: &str) -> anyhow::Result<bool> {
+pub(crate) fn order(rt: &HostRuntime, text: &str) -> Result<(), Fault> {
     let mut room = [Node::Void; MAX_NODES];
     match read_nodes(text.as_bytes(), &mut room) {
         Ok(nodes) => {
             println!(rt; "an order; nodes: {}", nodes.len())?;
             print_tree(rt, nodes, 2)?;
             print_nodes(rt, nodes)?;
-            Ok(true)
+            Ok(())
         }
-        Err(fault) => {
-            print_fault(rt, text, fault)?;
-            Ok(false)
-        }
+        Err(fault) => Err(Fault::Refused(explained(rt.alloc(), text, fault)?)),
     }
 }

@@ -1,5 +1,6 @@
 // formbook replay: calls on a book, one a line of a script, and what it answers.
 use super::checking::{load, opened};
+use super::faults::Fault;
 use super::ordering;
 use super::scripting::{Reader, Unread, order_text};
 use super::telling::print_answer;
@@ -45,68 +46,63 @@ impl<'a> Script<'a> {
         let text = line.text;
         println!(rt; "{path}: line {number} is no call: {text}")?;
         if let Unread::Order(fault) = unread {
-            let order = text.split_whitespace().nth(1).unwrap_or("");
-            return ordering::print_fault(rt, order_text(order), fault);
+            let order = order_text(text.split_whitespace().nth(1).unwrap_or(""));
+            let why = ordering::explained(rt.alloc(), order, fault)?;
+            println!(rt; "{why}")?;
+            return Ok(());
         }
         println!(rt; "  {unread}")?;
         Ok(())
     }
 
-    // All its calls, or none if a line cannot be read; each such line is named.
-    fn calls(&self, rt: &HostRuntime) -> anyhow::Result<Option<Vec<Call>>> {
+    // All its calls; where lines cannot be read, each is named.
+    fn calls(&self, rt: &HostRuntime) -> Result<Vec<Call>, Fault> {
         let mut calls = Vec::new(rt.alloc());
-        let mut all = true;
+        let mut all = Ok(());
         for line in &self.lines {
             match self.reader.read_call(line.text) {
                 Ok(call) => calls.push(call)?,
                 Err(unread) => {
                     self.print_unread(rt, line, unread)?;
-                    all = false;
+                    all = Err(Fault::Refused(format!(in rt.alloc(); "nothing was performed")?));
                 }
             }
         }
-        if !all {
-            println!(rt; "nothing was performed")?;
-            return Ok(None);
-        }
-        Ok(Some(calls))
+        all?;
+        Ok(calls)
     }
 
     // Each line and its answer. A line is read again, since performing took its call.
-    fn print_answers(&self, rt: &HostRuntime, answers: &[Answer]) -> anyhow::Result<bool> {
-        let mut all = true;
+    fn print_answers(&self, rt: &HostRuntime, answers: &[Answer]) -> Result<(), Fault> {
+        let mut all = Ok(());
         for (line, answer) in self.lines.iter().zip(answers) {
             let text = line.text;
             println!(rt; "{text}")?;
             if let Ok(call) = self.reader.read_call(text) {
-                let taken = print_answer(rt, &call, answer, self.reader.count)?;
-                all = all && taken;
+                if let Err(fault) = print_answer(rt, &call, answer, self.reader.count) {
+                    fault.say(rt)?;
+                    all = Err(Fault::Said);
+                }
             }
         }
-        Ok(all)
+        all
     }
 
     // Performs its calls on a book over the table.
-    fn perform(&self, rt: &HostRuntime, table: RowText) -> anyhow::Result<bool> {
-        let Some(calls) = self.calls(rt)? else {
-            return Ok(false);
-        };
+    fn perform(&self, rt: &HostRuntime, table: RowText) -> Result<(), Fault> {
+        let calls = self.calls(rt)?;
         let room = Vec::with_capacity(rt.alloc(), calls.len())?;
         match replay(table, calls, room) {
             Some(answers) => self.print_answers(rt, &answers),
-            None => Err(anyhow!("there is no room for the answers")),
+            None => Err(Fault::Failed(anyhow!("there is no room for the answers"))),
         }
     }
 }
 
-// A table and a script. It answers whether no call was refused.
-pub(crate) fn replay_script(rt: &HostRuntime, table: &str, path: &str) -> anyhow::Result<bool> {
-    let Some(table) = load(rt, table)? else {
-        return Ok(false);
-    };
-    let Some(text) = opened(rt, path, fs::read_to_string(rt, path))? else {
-        return Ok(false);
-    };
+// A table and a script.
+pub(crate) fn replay_script(rt: &HostRuntime, table: &str, path: &str) -> Result<(), Fault> {
+    let table = load(rt, table)?;
+    let text = opened(rt, path, fs::read_to_string(rt, path))?;
     let heap = rt.alloc();
     let lines = call_lines(heap, text.as_str())?;
     let count = table.rows().len();

@@ -1,4 +1,5 @@
 // What a book answers to a call, in words.
+use super::faults::Fault;
 use super::{ordering, phrases};
 use anyhow::anyhow;
 use book::types::{BookFault, Verdict};
@@ -161,21 +162,16 @@ fn print_given(rt: &HostRuntime, call: &Call, answer: &Answer, count: usize) -> 
     }
 }
 
-// It answers whether the call was not refused.
+// An answer, unless the call was refused.
 pub(crate) fn print_answer(
     rt: &HostRuntime,
     call: &Call,
     answer: &Answer,
     count: usize,
-) -> anyhow::Result<bool> {
-    match fault_of(answer) {
-        Some(fault) => {
-            println!(rt; "  {fault}")?;
-            Ok(false)
-        }
-        None => {
-            print_given(rt, call, answer, count)?;
-            Ok(true)
-        }
+) -> Result<(), Fault> {
+    if let Some(fault) = fault_of(answer) {
+        return Err(Fault::Refused(format!(in rt.alloc(); "  {fault}")?));
     }
+    print_given(rt, call, answer, count)?;
+    Ok(())
 }

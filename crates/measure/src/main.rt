@@ -29,34 +29,50 @@ fn repeated(rt: &HostRuntime, part: &str, times: usize, end: &str) -> anyhow::Re
     Ok(text)
 }
 
-fn measure_rows(rt: &HostRuntime, name: &str, text: &str) -> anyhow::Result<()> {
+// How long each of so many calls takes, in nanoseconds, and the sum of what they give.
+fn timed<F: FnMut(usize) -> usize>(
+    rt: &HostRuntime,
+    times: usize,
+    mut call: F,
+) -> anyhow::Result<(u128, usize)>
+    requires { F.IsAlwaysCallable call }
+{
+    let mut sum = 0usize;
     let start = Instant::now(rt)?;
-    let mut admitted = 0usize;
-    for _ in 0..TIMES {
-        if let Ok(table) = RowText::read(text.as_bytes()) {
-            if admit(&table).is_ok() {
-                admitted = admitted.saturating_add(table.rows().len());
-            }
-        }
+    for k in 0..times {
+        sum = sum.saturating_add(call(k));
     }
     let nanos = start.elapsed(rt)?.as_nanos();
-    let each = nanos / TIMES as u128;
-    println!(rt; "{name}: checked and admitted in {each} ns (rows admitted: {admitted})")?;
+    Ok((nanos / times.max(1) as u128, sum))
+}
+
+// How many rows the table of a text has, if it is admitted.
+fn admitted(text: &[u8]) -> usize {
+    let Ok(table) = RowText::read(text) else {
+        return 0;
+    };
+    if admit(&table).is_ok() {
+        table.rows().len()
+    } else {
+        0
+    }
+}
+
+fn measure_rows(rt: &HostRuntime, name: &str, text: &str) -> anyhow::Result<()> {
+    let (each, rows) = timed(rt, TIMES, |_| admitted(text.as_bytes()))?;
+    println!(rt; "{name}: checked and admitted in {each} ns (rows admitted: {rows})")?;
     Ok(())
 }
 
 // How long it takes to prepare a table.
 fn measure_prepared(rt: &HostRuntime, name: &str, text: &str) -> anyhow::Result<()> {
     let table = RowText::new(text.as_bytes());
-    let start = Instant::now(rt)?;
-    let mut prepared = 0usize;
-    for _ in 0..TIMES {
-        if let Ok(ready) = Prepared::of(&table) {
-            prepared = prepared.saturating_add(ready.count());
-        }
-    }
-    let each = start.elapsed(rt)?.as_nanos() / TIMES as u128;
-    println!(rt; "{name}: prepared in {each} ns (rows prepared: {prepared})")?;
+    let (each, rows) = timed(
+        rt,
+        TIMES,
+        |_| Prepared::of(&table).map_or(0, |prepared| prepared.count()),
+    )?;
+    println!(rt; "{name}: prepared in {each} ns (rows prepared: {rows})")?;
     Ok(())
 }
 
@@ -81,16 +97,10 @@ fn verdicts(rt: &HostRuntime, path: &str) -> anyhow::Result<()> {
     let table = RowText::new(&bytes);
     match Prepared::of(&table) {
         Ok(prepared) => {
-            let start = Instant::now(rt)?;
-            let mut yes = 0u32;
-            for _ in 0..FEW {
-                for word in prepared.verdicts() {
-                    yes = yes.wrapping_add(word.count_ones());
-                }
-            }
-            let each = start.elapsed(rt)?.as_nanos() / FEW as u128 / 1000;
+            let (nanos, yes) = timed(rt, FEW, |_| sets::count(&prepared.verdicts()))?;
+            let each = nanos / 1000;
             let count = prepared.count();
-            let pairs = yes / FEW as u32;
+            let pairs = yes / FEW;
             println!(rt;
                 "{path}: {count} rows, {pairs} pairs hold, all verdicts in {each} microseconds"
             )?;
@@ -102,35 +112,33 @@ fn verdicts(rt: &HostRuntime, path: &str) -> anyhow::Result<()> {
 
 // How long making a book over a table takes, in nanoseconds.
 fn making(rt: &HostRuntime, bytes: &[u8]) -> anyhow::Result<u128> {
-    let mut open = 0usize;
-    let start = Instant::now(rt)?;
-    for _ in 0..TIMES {
-        let book = Book::new(RowText::new(bytes));
-        if book.held().is_ok() {
-            open = open.saturating_add(1);
-        }
-    }
-    let each = start.elapsed(rt)?.as_nanos() / TIMES as u128;
+    let (each, open) = timed(
+        rt,
+        TIMES,
+        |_| Book::new(RowText::new(bytes)).held().is_ok() as usize,
+    )?;
     if open == 0 {
         println!(rt; "the book is shut")?;
     }
     Ok(each)
 }
 
-// How long an ask of a pair takes on an empty book, in nanoseconds, at best of a few times; 0 if it is no pair of rows.
-fn asking(rt: &HostRuntime, book: &mut Book<RowText>, pair: (u8, u8)) -> anyhow::Result<u128> {
+// How long an ask of a pair takes on an empty book, in nanoseconds, at best of a few times; none if it is no pair of rows.
+fn asking(
+    rt: &HostRuntime,
+    book: &mut Book<RowText>,
+    pair: (u8, u8),
+) -> anyhow::Result<Option<u128>> {
     let mut best = u128::MAX;
     for _ in 0..THRICE {
         let _ = book.clear();
-        let start = Instant::now(rt)?;
-        let asked = book.ask(pair).is_ok();
-        let nanos = start.elapsed(rt)?.as_nanos();
-        if !asked {
-            return Ok(0);
+        let (nanos, asked) = timed(rt, 1, |_| book.ask(pair).is_ok() as usize)?;
+        if asked == 0 {
+            return Ok(None);
         }
         best = best.min(nanos);
     }
-    Ok(best)
+    Ok(Some(best))
 }
 
 // The pairs that settled asks and look-ups go through.
@@ -138,9 +146,9 @@ fn mixed(k: usize) -> (u8, u8) {
     ((k % 7) as u8, (k % 11) as u8)
 }
 
-// The nanoseconds of each of many calls, from the first on; how many said yes keeps them from being left out.
-fn each_of(rt: &HostRuntime, start: Instant, yes: usize) -> anyhow::Result<u128> {
-    let nanos = start.elapsed(rt)?.as_nanos() / TIMES as u128;
+// The nanoseconds of each of many calls; how many said yes keeps them from being left out.
+fn kept(rt: &HostRuntime, timing: (u128, usize)) -> anyhow::Result<u128> {
+    let (nanos, yes) = timing;
     if yes > TIMES {
         println!(rt; "more than all")?;
     }
@@ -149,27 +157,22 @@ fn each_of(rt: &HostRuntime, start: Instant, yes: usize) -> anyhow::Result<u128>
 
 // How long an ask of a pair takes that was asked before, in nanoseconds.
 fn asking_again(rt: &HostRuntime, book: &mut Book<RowText>) -> anyhow::Result<u128> {
-    let start = Instant::now(rt)?;
-    let mut yes = 0usize;
-    for k in 0..TIMES {
-        if let Ok((Verdict::Yes, _)) = book.ask(mixed(k)) {
-            yes = yes.saturating_add(1);
-        }
-    }
-    each_of(rt, start, yes)
+    let asked = timed(
+        rt,
+        TIMES,
+        |k| matches!(book.ask(mixed(k)), Ok((Verdict::Yes, _))) as usize,
+    )?;
+    kept(rt, asked)
 }
 
 // How long a look-up takes, in nanoseconds.
-// As it is: an ask changes the book and a look-up does not, so one loop for both would need a closure that changes a capture, and is no shorter.
 fn looking_up(rt: &HostRuntime, book: &Book<RowText>) -> anyhow::Result<u128> {
-    let start = Instant::now(rt)?;
-    let mut yes = 0usize;
-    for k in 0..TIMES {
-        if let Ok(Some(Verdict::Yes)) = book.look_up(mixed(k)) {
-            yes = yes.saturating_add(1);
-        }
-    }
-    each_of(rt, start, yes)
+    let looked = timed(
+        rt,
+        TIMES,
+        |k| matches!(book.look_up(mixed(k)), Ok(Some(Verdict::Yes))) as usize,
+    )?;
+    kept(rt, looked)
 }
 
 // The slowest of the first asks of all pairs of a table, each on an empty book.
@@ -178,10 +181,12 @@ fn slowest(rt: &HostRuntime, book: &mut Book<RowText>) -> anyhow::Result<(u128, 
     let mut at = (0u8, 0u8);
     for p in 0..MAX_ROWS as u8 {
         for q in 0..MAX_ROWS as u8 {
-            let nanos = asking(rt, book, (p, q))?;
-            if nanos > worst {
-                worst = nanos;
-                at = (p, q);
+            match asking(rt, book, (p, q))? {
+                Some(nanos) if nanos > worst => {
+                    worst = nanos;
+                    at = (p, q);
+                }
+                _ => (),
             }
         }
     }
@@ -231,12 +236,19 @@ fn show_all(book: &Book<RowText>) -> usize {
     count
 }
 
-// All asks of the book over a table, and if asked for an order for each no, to be run with little stack.
-fn stack_book(rt: &HostRuntime, word: &str, path: &str, show: bool) -> anyhow::Result<()> {
+// All asks of the book over a table, and then what is handed in, to be run with little stack.
+fn stack_book<F: FnOnce(&Book<RowText>) -> usize>(
+    rt: &HostRuntime,
+    word: &str,
+    path: &str,
+    then: F,
+) -> anyhow::Result<()>
+    requires { F.IsAlwaysCallable then }
+{
     let bytes = fs::read(rt, path)?;
     let mut book = Book::new(RowText::new(&bytes));
     let yes = ask_all(&mut book);
-    let shown = if show { show_all(&book) } else { 0 };
+    let shown = then(&book);
     println!(rt; "{word}: {yes} {shown}")?;
     Ok(())
 }
@@ -245,41 +257,34 @@ fn megabytes(bytes: usize, nanos: u128) -> u128 {
     if nanos == 0 {
         0
     } else {
-        bytes as u128 * TIMES as u128 * 1000 / nanos
+        bytes as u128 * 1000 / nanos
     }
-}
-
-fn read_often(text: &[u8], nodes: &mut [Node]) -> usize {
-    let mut count = 0;
-    for _ in 0..TIMES {
-        count = read_document(text, nodes).unwrap_or(0);
-    }
-    count
-}
-
-fn write_often(nodes: &[Node], root: usize, buffer: &mut [u8]) -> usize {
-    let mut length = 0;
-    for _ in 0..TIMES {
-        length = write_document(nodes, root, buffer).unwrap_or(0);
-    }
-    length
 }
 
 fn measure_document(rt: &HostRuntime, name: &str, text: &str) -> anyhow::Result<()> {
     let mut nodes = [Node::Void; MAX_NODES];
-    let start = Instant::now(rt)?;
-    let count = read_often(text.as_bytes(), &mut nodes);
-    let read = megabytes(text.len(), start.elapsed(rt)?.as_nanos());
     let bytes = text.len();
-    println!(rt; "{name}: {bytes} bytes, {count} nodes, read at {read} MB/s")?;
+    let (nanos, read) = timed(
+        rt,
+        TIMES,
+        |_| read_document(text.as_bytes(), &mut nodes).unwrap_or(0),
+    )?;
+    let count = read / TIMES;
+    let speed = megabytes(bytes, nanos);
+    println!(rt; "{name}: {bytes} bytes, {count} nodes, read at {speed} MB/s")?;
     let Some(root) = count.checked_sub(1) else {
         return Ok(());
     };
+    let table = nodes.get(..count).unwrap_or(&[]);
     let mut buffer = [0u8; MAX_DOCUMENT];
-    let again = Instant::now(rt)?;
-    let length = write_often(nodes.get(..count).unwrap_or(&[]), root, &mut buffer);
-    let wrote = megabytes(length, again.elapsed(rt)?.as_nanos());
-    println!(rt; "{name}: {length} bytes written at {wrote} MB/s")?;
+    let (nanos, wrote) = timed(
+        rt,
+        TIMES,
+        |_| write_document(table, root, &mut buffer).unwrap_or(0),
+    )?;
+    let length = wrote / TIMES;
+    let speed = megabytes(length, nanos);
+    println!(rt; "{name}: {length} bytes written at {speed} MB/s")?;
     Ok(())
 }
 
@@ -292,15 +297,20 @@ fn documents(rt: &HostRuntime) -> anyhow::Result<()> {
     measure_document(rt, "more nodes than a table has", large.as_str())
 }
 
-// Each element follows the one before, or lies inside it.
-fn chain(nodes: &mut [Node], is_inside: bool) {
+// Each node but the first is made of the number of the one before.
+fn chain<F: Fn(u16) -> Node>(nodes: &mut [Node], after: F)
+    requires { F.IsAlwaysCallable after }
+{
     for (before, node) in (0u16..).zip(nodes.iter_mut().skip(1)) {
-        let (inside, following) = if is_inside { (before, 0) } else { (0, before) };
-        *node = Node::Element {
-            label: 1,
-            inside,
-            following,
-        };
+        *node = after(before);
+    }
+}
+
+fn element(inside: u16, following: u16) -> Node {
+    Node::Element {
+        label: 1,
+        inside,
+        following,
     }
 }
 
@@ -314,11 +324,11 @@ fn stack(rt: &HostRuntime, word: &str) -> anyhow::Result<()> {
             read_document(text.as_bytes(), &mut nodes).unwrap_or(0)
         }
         "stack-row" => {
-            chain(&mut nodes, false);
+            chain(&mut nodes, |before| element(0, before));
             write_document(&nodes, MAX_NODES - 1, &mut buffer).unwrap_or(0)
         }
         _ => {
-            chain(&mut nodes, true);
+            chain(&mut nodes, |before| element(before, 0));
             write_document(&nodes, MAX_NODES - 1, &mut buffer).unwrap_or(0)
         }
     };
@@ -344,10 +354,10 @@ fn run(rt: &HostRuntime, words: &[&str]) -> anyhow::Result<()> {
     match words {
         ["books", paths @ ..] => each(rt, paths, |rt, path| books(rt, path)),
         ["stack-ask", paths @ ..] => each(rt, paths, |rt, path| {
-            stack_book(rt, "stack-ask", path, false)
+            stack_book(rt, "stack-ask", path, |_| 0)
         }),
         ["stack-show", paths @ ..] => each(rt, paths, |rt, path| {
-            stack_book(rt, "stack-show", path, true)
+            stack_book(rt, "stack-show", path, show_all)
         }),
         ["verdicts", paths @ ..] => each(rt, paths, |rt, path| verdicts(rt, path)),
         ["rows", ..] => rows(rt),

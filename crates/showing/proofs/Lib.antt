@@ -6,5 +6,5 @@ pub mod Tables
 pub mod Suiting
 pub mod Complete
 pub mod Drawing
-pub mod Shown
+pub mod Questions
 pub mod Lacking

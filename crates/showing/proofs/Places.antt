@@ -36,19 +36,19 @@ module _ (rows : List Row) (leaned below : List ℕ) (numbers : List (Option ℕ
   draft_row place m (Some v) e low lights = of_row (omega arith) lights
 
   -- the pair at a place behind the rows' places
-  abbrev Open : ℕ → ℕ → Type 0
-  Open m k = (k < m * m) × (member leaned k ≡ true) × (member below k ≡ true → ⊥)
+  abbrev Open : ℕ → Type 0
+  Open k = (k < n * n) × (member leaned k ≡ true) × (member below k ≡ true → ⊥)
 
-  pub draft_shut : (place m : ℕ) (b : Bool) → m ≡ length rows → m ≤ place → Decides b (Open m (place - m)) → b ≡ false → Undrafted rows (related (length rows) leaned) (related (length rows) below) numbers place
+  pub draft_shut : (place m : ℕ) (b : Bool) → m ≡ length rows → m ≤ place → Decides b (Open (place - m)) → b ≡ false → Undrafted rows (related (length rows) leaned) (related (length rows) below) numbers place
   draft_shut place m b e high told off = record {
     row = λ low. absurd (omega arith);
-    pair = λ p q p< q< is l nb. absurd (both_ways b off (told.1 (subst (λ x. Open x (place - m)) (sym e) (opens p q p< q< is l nb))));
+    pair = λ p q p< q< is l nb. absurd (both_ways b off (told.1 (opens p q p< q< is l nb)));
   }
     where
-      opens : (p q : ℕ) → p < n → q < n → place ≡ pair_place n p q → L p q ≡ true → (B p q ≡ true → ⊥) → Open n (place - m)
+      opens : (p q : ℕ) → p < n → q < n → place ≡ pair_place n p q → L p q ≡ true → (B p q ≡ true → ⊥) → Open (place - m)
       opens p q p< q< is l nb =
           let k : p * n + q ≡ place - m = omega arith in
-          subst (Open n) k (mul-add-lt p n q n p< q<, (between_parts n (member leaned) p q l).2, λ h. nb (between_from n (member below) p q p< q< h))
+          subst Open k (mul-add-lt p n q n p< q<, (between_parts n (member leaned) p q l).2, λ h. nb (between_from n (member below) p q p< q< h))
 
   drafted : (place a b : ℕ) (o : Option Node) → a < n → b < n → place ≡ pair_place n a b → L a b ≡ true → (B a b ≡ true → ⊥) → MatchOption o (Untold rows B numbers a b) (λ v. Tells rows B numbers a b v) → MatchOption o (Undrafted rows L B numbers place) (λ v. Drafts rows L B numbers place v)
   drafted place a b None a< b< is l nb untold = record {
@@ -60,11 +60,11 @@ module _ (rows : List Row) (leaned below : List ℕ) (numbers : List (Option ℕ
   abbrev Told : ℕ → ℕ → Option Node → Type 0
   Told m k o = MatchOption o (Untold rows B numbers (k / m) (k % m)) (λ v. Tells rows B numbers (k / m) (k % m) v)
 
-  pub draft_pair : (place m : ℕ) (o : Option Node) → m ≡ length rows → m ≤ place → Open m (place - m) → Told m (place - m) o →
+  pub draft_pair : (place m : ℕ) (o : Option Node) → m ≡ length rows → m ≤ place → Open (place - m) → Told m (place - m) o →
       MatchOption o (Undrafted rows (related (length rows) leaned) (related (length rows) below) numbers place) (λ v. Drafts rows (related (length rows) leaned) (related (length rows) below) numbers place v)
-  draft_pair place m o e = subst (λ x. x ≤ place → Open x (place - x) → Told x (place - x) o → MatchOption o (Undrafted rows L B numbers place) (λ v. Drafts rows L B numbers place v)) (sym e) go
+  draft_pair place m o e = subst (λ x. x ≤ place → Open (place - x) → Told x (place - x) o → MatchOption o (Undrafted rows L B numbers place) (λ v. Drafts rows L B numbers place v)) (sym e) go
     where
-      go : n ≤ place → Open n (place - n) → Told n (place - n) o → MatchOption o (Undrafted rows L B numbers place) (λ v. Drafts rows L B numbers place v)
+      go : n ≤ place → Open (place - n) → Told n (place - n) o → MatchOption o (Undrafted rows L B numbers place) (λ v. Drafts rows L B numbers place v)
       go high (low, l, nb) told =
           let k = place - n in
           let some : 0 < n = positive n k low in

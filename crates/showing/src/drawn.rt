@@ -1,4 +1,7 @@
 // The rows and the pairs of rows that have a node already.
+ghost use Rattle.showing.specs.Drawing.{Asked};
+ghost use Rattle.verdicts.specs.Tables.{rows_in, related_in};
+
 use documents::nodes::MAX_NODES;
 use verdicts::prepared::Prepared;
 
@@ -8,9 +11,11 @@ pub(crate) struct Question<'a> {
     pub prepared: &'a Prepared,
     pub leaned: &'a [u64],
     pub below: &'a [u64],
+    ghost asked: { ∥ Asked (rows_in prepared.now) (related_in prepared.now leaned.now) (related_in prepared.now below.now) ∥₁ },
 }
 
 // So many nodes are used. A row and a pair of rows that have a node have its number: row r at place r, and the pair of a and b at n + a n + b.
+// As it is: the nodes stand beside it, since a struct that held them as a `&mut` would have each contract say too that it stays the same one.
 #[derive(Drop)]
 pub(crate) struct Drawn {
     used: usize,

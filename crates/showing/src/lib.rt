@@ -2,9 +2,8 @@
 #![tactic(auto)]
 
 ghost use Rattle.std.specs.Prelude.{◌+◌, ◌*◌, ◌<◌, ◌≤◌, Decides};
-ghost use Rattle.forms.specs.Limits.{max_rows};
 ghost use Rattle.showing.specs.Showing.{Shown};
-ghost use Rattle.verdicts.specs.Tables.{rows_in};
+ghost use Rattle.verdicts.specs.Tables.{rows_in, count_in};
 
 use documents::nodes::Node;
 use drawn::Question;
@@ -13,11 +12,11 @@ use verdicts::prepared::Prepared;
 
 mod drawn;
 
-// Whether it is a pair of n rows, and the room is enough for one node a row and one a pair.
-fn askable(n: usize, pair: (u8, u8), room: usize) -> bool
-    requires { n ≤ max_rows }
-    ensures { Decides result ((pair.0 < n) × (pair.1 < n) × (n * (n + 1) ≤ room)) }
+// Whether it is a pair of rows, and the room is enough for one node a row and one a pair.
+fn askable(prepared: &Prepared, pair: (u8, u8), room: usize) -> bool
+    ensures { Decides result ((pair.0 < count_in prepared.now) × (pair.1 < count_in prepared.now) × (count_in prepared.now * (count_in prepared.now + 1) ≤ room)) }
 {
+    let n = prepared.count();
     (pair.0 as usize) < n && (pair.1 as usize) < n && n * (n + 1) <= room
 }
 
@@ -27,7 +26,7 @@ pub fn show(prepared: &Prepared, pair: (u8, u8), nodes: &mut [Node]) -> Option<u
     ensures { Shown (rows_in prepared.now) pair.0 pair.1 nodes.old nodes.new result }
 {
     let n = prepared.count();
-    if !askable(n, pair, nodes.len()) {
+    if !askable(prepared, pair, nodes.len()) {
         return None;
     }
     let leaned = prepared.leaned(pair);

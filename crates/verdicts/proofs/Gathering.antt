@@ -7,7 +7,7 @@ use Rattle.sets.specs.Sets.{bit, member, word, top}
 use Rattle.sets.proofs.Membership.{member_at, member_past}
 use Rattle.sets.proofs.Words.{bit_of_and}
 use Rattle.forms.specs.Limits.{max_rows}
-use Rattle.relation.proofs.Reaching.{zeros_none}
+use Rattle.sets.proofs.Membership.{zeros_none}
 
 ltb_step : (j i : ℕ) → j ≢ i → ltb j i ≡ ltb j (i + 1)
 ltb_step j i other = ⊎_elim (λ h. lt-ltb j i h ∙ sym (lt-ltb j (i + 1) (omega arith))) (λ h. le-ltb j i h ∙ sym (le-ltb j (i + 1) (up h))) (cases_lt j i)

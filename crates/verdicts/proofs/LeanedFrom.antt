@@ -6,7 +6,7 @@ use Rattle.sets.specs.Sets.{member, tally}
 use Rattle.sets.proofs.Tallies.{tally_fewer, tally_le}
 use Rattle.forms.specs.Limits.{max_rows}
 use Rattle.forms.specs.declared.Row.{Row}
-use Rattle.relation.proofs.Reaching.{zeros_none}
+use Rattle.sets.proofs.Membership.{zeros_none}
 use Rattle.schema.specs.Rules.{Bounded, Names, Leans}
 use Rattle.schema.specs.Rules.Leans.{on_itself, on_named}
 use Rattle.schema.specs.Theorems.{Confined}

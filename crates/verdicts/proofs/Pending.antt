@@ -3,7 +3,7 @@ use Rattle.std.proofs.Common.{◌≡◌, ℕ, ◌+◌, ◌*◌, ◌<◌, ◌≤�
 use Rattle.std.proofs.lemmas.Bool.{both_ways}
 use Rattle.forms.specs.Limits.{max_rows}
 use Rattle.forms.specs.declared.Row.{Row}
-use Rattle.relation.proofs.Reaching.{zeros_none}
+use Rattle.sets.proofs.Membership.{zeros_none}
 use Rattle.verdicts.specs.Naming.{Noted, Pended}
 use Rattle.verdicts.specs.Walking.{Notes}
 use Rattle.verdicts.specs.declared.prepared.leaning.Walk.{Walk}

@@ -1,5 +1,5 @@
 // Fitting document tables to the rows of an open book.
-ghost use Rattle.std.specs.Prelude.{◌≡◌, ℕ, ◌*◌, ◌≤◌, true, false, List, length, MatchResult};
+ghost use Rattle.std.specs.Prelude.{◌≡◌, ℕ, ◌*◌, ◌≤◌, true, false, List, length, Decides, MatchResult};
 ghost use Rattle.sets.specs.Sets.{member};
 ghost use Rattle.forms.specs.Refusals.Outcome.{refuses};
 ghost use Rattle.fitting.specs.Marks.{Among, Marked, TellsRoot};
@@ -14,9 +14,9 @@ ghost use Rattle.book.specs.Ledgers.{ledger_rows};
 
 use super::super::types::BookFault;
 use super::Ledger;
-use documents::nodes::Node;
 use fitting::checking::check;
 use fitting::marking::mark;
+use fitting::order::Order;
 use fitting::wanting::wanted;
 use sets;
 use sets::Members;
@@ -25,7 +25,7 @@ use verdicts::prepared::deciding::PAIR_WORDS;
 impl Ledger {
     // Whether all that the pairs of a set lean on is held already.
     fn is_settled(&self, pairs: &[u64]) -> bool
-        ensures { result ≡ true → (k : ℕ) → member pairs.now k ≡ true → member self.now.settled k ≡ true }
+        ensures { Decides result ((k : ℕ) → member pairs.now k ≡ true → member self.now.settled k ≡ true) }
     {
         Members::of(pairs).all(|k| sets::test(&self.settled, k))
     }
@@ -42,40 +42,39 @@ impl Ledger {
         self.settle(leaned)
     }
 
-    // Whether nodes can be fitted and the row is one of the table, or why not.
-    fn fittable(&self, nodes: &[Node], root: usize, row: u8, marks: usize) -> Result<(), BookFault>
-        ensures { MatchResult result (λ _. FitTaken (ledger_rows self.now) nodes.now root row marks) (λ e. (words : List ℕ) → length words ≡ marks → Done self.now (fit nodes.now root row words) (fitted (refuses (book_refusal e)) words) self.now) }
+    // Whether an order can be fitted and the row is one of the table, or why not.
+    fn fittable(&self, order: &Order, row: u8, marks: usize) -> Result<(), BookFault>
+        ensures { MatchResult result (λ _. FitTaken (ledger_rows self.now) order.now.nodes.now order.now.root row marks) (λ e. (words : List ℕ) → length words ≡ marks → Done self.now (fit order.now.nodes.now order.now.root row words) (fitted (refuses (book_refusal e)) words) self.now) }
     {
         if row as usize >= self.prepared.count() {
             return Err(BookFault::RowOutside);
         }
-        check(&self.prepared, nodes, root, marks)?;
+        check(&self.prepared, order, marks)?;
         Ok(())
     }
 
     // Marks for each node the rows that it fits by the pairs that are yes, and tells whether the root fits the row.
-    fn mark_nodes(&self, nodes: &[Node], root: usize, row: u8, marks: &mut [u64]) -> bool
-        requires { FitTaken (ledger_rows self.now) nodes.now root row (length marks.old) }
-        ensures marked { Marked (ledger_rows self.now) (Among (length (ledger_rows self.now)) self.now.yes) nodes.now marks.new }
-        ensures told { TellsRoot (ledger_rows self.now) (Among (length (ledger_rows self.now)) self.now.yes) nodes.now root row result }
+    fn mark_nodes(&self, order: &Order, row: u8, marks: &mut [u64]) -> bool
+        requires { FitTaken (ledger_rows self.now) order.now.nodes.now order.now.root row (length marks.old) }
+        ensures marked { Marked (ledger_rows self.now) (Among (length (ledger_rows self.now)) self.now.yes) order.now.nodes.now marks.new }
+        ensures told { TellsRoot (ledger_rows self.now) (Among (length (ledger_rows self.now)) self.now.yes) order.now.nodes.now order.now.root row result }
     {
-        mark(&self.prepared, &self.yes, nodes, root, row, marks).unwrap()
+        mark(&self.prepared, &self.yes, order, row, marks).unwrap()
     }
 
     // Settles each pair of a referenced row and a channel row, and then marks for each node the rows that it fits.
     pub(crate) fn fit(
         &mut self,
-        nodes: &[Node],
-        root: usize,
+        order: &Order,
         row: u8,
         marks: &mut [u64],
     ) -> Result<(bool, usize), BookFault>
-        ensures { Done self.old (fit nodes.now root row marks.old) (fitted (outcome result) marks.new) self.new }
+        ensures { Done self.old (fit order.now.nodes.now order.now.root row marks.old) (fitted (outcome result) marks.new) self.new }
     {
-        self.fittable(nodes, root, row, marks.len())?;
-        let pairs = wanted(&self.prepared, nodes);
+        self.fittable(order, row, marks.len())?;
+        let pairs = wanted(&self.prepared, order.nodes);
         let new = self.settle_all(pairs);
-        let fits = self.mark_nodes(nodes, root, row, marks);
+        let fits = self.mark_nodes(order, row, marks);
         Ok((fits, new))
     }
 }

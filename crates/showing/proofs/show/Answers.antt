@@ -5,8 +5,18 @@ use Rattle.forms.specs.Buffers.{rows_of}
 use Rattle.schema.specs.Rules.Leans.{on_itself}
 use Rattle.verdicts.specs.Pairs.{related}
 use Rattle.verdicts.proofs.Deciding.{between_parts}
-use Rattle.showing.proofs.Shown.{askable_rows}
 use Rattle.showing.proofs.show.Goals as goal
+
+pub invariant_of-question : goal.invariant_of-question
+invariant_of-question c =
+    let rows = rows_of c.args.prepared.now.table in
+    record {
+      asked = ∣ record {
+        of_rows = λ a b h. let (a<, b<, _) = between_parts (length rows) (member c.leaned-leaned.result) a b h in (a<, b<);
+        confined = c.leaned-leaned.ensures.confined;
+        largest = c.narrow.ensures.largest;
+      } ∣₁;
+    }
 
 pub draw-requires : goal.draw-requires
 draw-requires c =
@@ -14,13 +24,8 @@ draw-requires c =
     let p = c.args.pair.0 in
     let q = c.args.pair.1 in
     let n = c.count-n.result in
-    let (p<, q<, room) = askable_rows n (length rows) p q c.count-n.ensures.is (length c.args.nodes.now) (c.askable.ensures.0 c.if-not-askable.false) in
+    let (p<, q<, room) = c.askable.ensures.0 c.if-not-askable.false in
     record {
-      asked = record {
-        of_rows = λ a b h. let (a<, b<, _) = between_parts (length rows) (member c.leaned-leaned.result) a b h in (a<, b<);
-        confined = c.leaned-leaned.ensures.confined;
-        largest = c.narrow.ensures.largest;
-      };
       leans = (c.leaned-leaned.ensures.leans p< q< p q).1 on_itself;
       apart = λ h. both_ways c.relates.result c.if-relates.false (c.relates.ensures ∙ h);
       room = room;
@@ -32,7 +37,7 @@ returns c =
     let p = c.args.pair.0 in
     let q = c.args.pair.1 in
     let n = c.count-n.result in
-    let (p<, q<, room) = askable_rows n (length rows) p q c.count-n.ensures.is (length c.args.nodes.now) (c.askable.ensures.0 c.if-not-askable.false) in
+    let (p<, q<, room) = c.askable.ensures.0 c.if-not-askable.false in
     let leans = (c.leaned-leaned.ensures.leans p< q< p q).1 on_itself in
     let apart : related (length rows) c.narrow.new.pairs p q ≡ true → ⊥ = λ h. both_ways c.relates.result c.if-relates.false (c.relates.ensures ∙ h) in (
       (p<, q<, λ below. apart ((c.narrow.ensures.confined c.leaned-leaned.ensures.confined p q leans).1 below), room),

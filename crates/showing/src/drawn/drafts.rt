@@ -1,13 +1,12 @@
 // The nodes that can be made of those that are there.
-ghost use Rattle.std.specs.Prelude.{◌≡◌, ℕ, ◌*◌, ◌<◌, ◌≤◌, true, false, Decides, MatchOption, ◌≢◌};
+ghost use Rattle.std.specs.Prelude.{◌≡◌, ℕ, ◌*◌, ◌<◌, true, false, length, Decides, MatchOption, ◌≢◌};
 ghost use Rattle.std.specs.List.{slice_get};
 ghost use Rattle.sets.specs.Sets.{member};
-ghost use Rattle.forms.specs.Limits.{max_rows};
 ghost use Rattle.schema.specs.Rules.{OffersVoid};
 ghost use Rattle.verdicts.specs.Reading.{ChannelTaken};
 ghost use Rattle.showing.specs.Questions.{rows_asked, leaned_in, below_in};
 ghost use Rattle.showing.specs.Drafts.{noted, pair_place, lowest, element_node, lighting_row, lacking_row, difference_from, difference_of_rows, Through, ElementOf, ChannelOf, DiffersIn, ToldBy, Lights, Unlit, Tells, Untold, Drafts, Undrafted};
-ghost use Rattle.verdicts.specs.Tables.{rows_in};
+ghost use Rattle.verdicts.specs.Tables.{rows_in, count_in};
 
 use super::{Drawn, Question};
 use documents::nodes::Node;
@@ -16,6 +15,7 @@ use sets;
 use verdicts::prepared::Prepared;
 
 // The lowest label of a set.
+// As it is: `sets::next` would take a slice made of the word, and answer a place that is cast back to a label.
 fn lowest(labels: u64) -> Option<u8>
     ensures { result ≡ lowest labels }
 {
@@ -55,12 +55,12 @@ fn untaken(question: &Question, p: u8, q: u8) -> Option<u8>
         .find(|c| !prepared.takes_channel(below, *c, q))
 }
 
-// Whether k is the place, among those of the pairs, of a pair of n rows that is in the first set and not in the second.
-fn open(leaned: &[u64], below: &[u64], n: usize, k: usize) -> bool
-    requires { n ≤ max_rows }
-    ensures { Decides result ((k < n * n) × (member leaned.now k ≡ true) × (member below.now k ≢ true)) }
+// Whether k is the place, among those of the pairs, of a pair that the asked one leans on and that is not below.
+fn open(question: &Question, k: usize) -> bool
+    ensures { Decides result ((k < length (rows_asked question.now) * length (rows_asked question.now)) × (member question.now.leaned.now k ≡ true) × (member question.now.below.now k ≢ true)) }
 {
-    k < n * n && sets::test(leaned, k) && !sets::test(below, k)
+    let n = question.prepared.count();
+    k < n * n && sets::test(question.leaned, k) && !sets::test(question.below, k)
 }
 
 impl Drawn {
@@ -71,11 +71,11 @@ impl Drawn {
         *self.numbers.get(place)?
     }
 
-    // The node of a pair of n rows.
-    fn pair_node(&self, n: usize, a: u8, b: u8) -> Option<u16>
-        requires { n ≤ max_rows }
-        ensures { result ≡ noted self.now.numbers (pair_place n a b) }
+    // The node of a pair of rows.
+    fn pair_node(&self, prepared: &Prepared, a: u8, b: u8) -> Option<u16>
+        ensures { result ≡ noted self.now.numbers (pair_place (count_in prepared.now) a b) }
     {
+        let n = prepared.count();
         self.node(n + (a as usize * n + b as usize))
     }
 
@@ -100,9 +100,14 @@ impl Drawn {
     }
 
     // A node that fits an element and not a row with a common label.
-    fn differ_from(&self, n: usize, labels: u64, parts: (u8, u8), row: Option<Row>) -> Option<Node>
-        requires { n ≤ max_rows }
-        ensures { result ≡ difference_from n self.now.numbers labels parts.0 parts.1 row }
+    fn differ_from(
+        &self,
+        prepared: &Prepared,
+        labels: u64,
+        parts: (u8, u8),
+        row: Option<Row>,
+    ) -> Option<Node>
+        ensures { result ≡ difference_from (count_in prepared.now) self.now.numbers labels parts.0 parts.1 row }
     {
         match row {
             Some(
@@ -115,13 +120,13 @@ impl Drawn {
                 let label = lowest(labels & other);
                 element(
                     label,
-                    self.pair_node(n, parts.0, inside),
+                    self.pair_node(prepared, parts.0, inside),
                     self.node(parts.1 as usize),
                 )
                 .or(element(
                     label,
                     self.node(parts.0 as usize),
-                    self.pair_node(n, parts.1, following),
+                    self.pair_node(prepared, parts.1, following),
                 ))
             }
             _ => None,
@@ -129,9 +134,8 @@ impl Drawn {
     }
 
     // The same of two rows.
-    fn differ_rows(&self, n: usize, row: Option<Row>, other: Option<Row>) -> Option<Node>
-        requires { n ≤ max_rows }
-        ensures { result ≡ difference_of_rows n self.now.numbers row other }
+    fn differ_rows(&self, prepared: &Prepared, row: Option<Row>, other: Option<Row>) -> Option<Node>
+        ensures { result ≡ difference_of_rows (count_in prepared.now) self.now.numbers row other }
     {
         match row {
             Some(
@@ -140,7 +144,7 @@ impl Drawn {
                     inside,
                     following,
                 },
-            ) => self.differ_from(n, labels, (inside, following), other),
+            ) => self.differ_from(prepared, labels, (inside, following), other),
             _ => None,
         }
     }
@@ -171,10 +175,9 @@ impl Drawn {
     fn differ_in(&self, prepared: &Prepared, row: Option<Row>, q: u8) -> Option<Node>
         ensures { DiffersIn (rows_in prepared.now) self.now.numbers q row result }
     {
-        let n = prepared.count();
         prepared
             .elements_of(q)
-            .find_map(|f| self.differ_rows(n, row, prepared.row(f)))
+            .find_map(|f| self.differ_rows(prepared, row, prepared.row(f)))
     }
 
     // The same, or one with a label that none of those rows has.
@@ -216,7 +219,7 @@ impl Drawn {
             return self.light(question.prepared, place as u8);
         }
         let k = place - n;
-        if !open(question.leaned, question.below, n, k) {
+        if !open(question, k) {
             return None;
         }
         let (p, q) = question.prepared.pair_at(k)?;

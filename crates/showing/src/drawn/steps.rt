@@ -1,7 +1,7 @@
 // Making nodes one after another, until the asked pair has one.
 ghost use Rattle.std.specs.Prelude.{◌≡◌, ◌+◌, ◌<◌, ◌≤◌, true, length, take, drop, replicate, ◌≢◌, slice_set, Some, None};
 ghost use Rattle.documents.specs.Limits.{max_nodes};
-ghost use Rattle.showing.specs.Drawing.{Asked, places, Holds, Visited, Rounded};
+ghost use Rattle.showing.specs.Drawing.{places, Holds, Visited, Rounded};
 ghost use Rattle.showing.specs.Questions.{rows_asked, leaned_in, below_in};
 ghost use Rattle.showing.specs.Showing.{Witnesses};
 
@@ -36,7 +36,6 @@ impl Drawn {
 
     // Makes a node for a place, if it has none and one can be made.
     fn visit(&mut self, question: &Question, nodes: &mut [Node], place: usize) -> bool
-        requires asked { Asked (rows_asked question.now) (leaned_in question.now) (below_in question.now) }
         requires holds { Holds (rows_asked question.now) (below_in question.now) nodes.old self.old.used self.old.numbers }
         requires within { place < places (rows_asked question.now) }
         ensures { Visited (rows_asked question.now) (leaned_in question.now) (below_in question.now) place nodes.old nodes.new self.old.used self.new.used self.old.numbers self.new.numbers result }
@@ -53,7 +52,6 @@ impl Drawn {
 
     // The same for all places but one.
     fn round(&mut self, question: &Question, nodes: &mut [Node], but: usize)
-        requires asked { Asked (rows_asked question.now) (leaned_in question.now) (below_in question.now) }
         requires holds { Holds (rows_asked question.now) (below_in question.now) nodes.old self.old.used self.old.numbers }
         ensures { Rounded (rows_asked question.now) (leaned_in question.now) (below_in question.now) but (places (rows_asked question.now)) nodes.old nodes.new self.old.used self.new.used self.old.numbers self.new.numbers }
     {
@@ -69,7 +67,6 @@ impl Drawn {
 // Makes nodes until the pair has one, which is then the last.
 // As it is: the place is written out, since the pair is one of rows, and an `Option` would have a case that does not come.
 pub(crate) fn draw(question: &Question, pair: (u8, u8), nodes: &mut [Node]) -> usize
-    requires asked { Asked (rows_asked question.now) (leaned_in question.now) (below_in question.now) }
     requires leans { (leaned_in question.now) pair.0 pair.1 ≡ true }
     requires apart { (below_in question.now) pair.0 pair.1 ≢ true }
     requires room { places (rows_asked question.now) ≤ length nodes.old }

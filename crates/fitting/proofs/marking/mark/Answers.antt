@@ -11,6 +11,6 @@ returns c =
     record {
       checked = c.in_ok-check.ensures.checked;
       marked = c.mark_nodes.ensures;
-      told = root_tells (rows_of t.table) (buffer_laws t.table).few (Among (length (rows_of t.table)) c.args.pairs.now) c.args.nodes.now c.mark_nodes.new.marks c.args.root c.args.row c.has.result c.in_ok-check.ensures.checked.root_within c.mark_nodes.ensures c.has.ensures;
+      told = root_tells (rows_of t.table) (buffer_laws t.table).few (Among (length (rows_of t.table)) c.args.pairs.now) c.args.order.now.nodes.now c.mark_nodes.new.marks c.args.order.now.root c.args.row c.has.result c.in_ok-check.ensures.checked.root_within c.mark_nodes.ensures c.has.ensures;
       length = c.mark_nodes.auto.marks;
     }

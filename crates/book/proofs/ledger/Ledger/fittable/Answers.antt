@@ -11,8 +11,8 @@ returns-in_err-check c =
     let l = c.args.self.now in
     let e = c.in_err-check.field-0.0 in
     let p = err_from_is_err_and c.from_residual.result c.from_residual.ensures.1 in
-    rw (p.1, p.2) (λ words long. fit_refused l c.args.nodes.now c.args.root c.args.row words (fit_refusal e) (omega arith)
-    (subst (λ m. Unfit (ledger_rows l) c.args.nodes.now c.args.root m (fit_refusal e)) (sym long) c.in_err-check.ensures.checked))
+    rw (p.1, p.2) (λ words long. fit_refused l c.args.order.now.nodes.now c.args.order.now.root c.args.row words (fit_refusal e) (omega arith)
+    (subst (λ m. Unfit (ledger_rows l) c.args.order.now.nodes.now c.args.order.now.root m (fit_refusal e)) (sym long) c.in_err-check.ensures.checked))
 
 pub returns : goal.returns
 returns c = (omega arith, c.in_ok-check.ensures.checked)

@@ -7,4 +7,4 @@ use borrow.Author.Tests.{tests}
 pub returns : goal.returns
 returns c =
     let Yes : ℕ → Type 0 = λ k. member c.args.self.now.settled k ≡ true in
-    (decides_all (λ s. member s.words.now) (λ s. s.start) (member c.args.pairs.now) c.of.ensures.start (λ k. ap (λ ws. member ws k) c.of.ensures.set) Yes c.all.ensures.ran (λ x q k. search (rules, tests)) (λ x q k. search (rules, tests))).0
+    decides_all (λ s. member s.words.now) (λ s. s.start) (member c.args.pairs.now) c.of.ensures.start (λ k. ap (λ ws. member ws k) c.of.ensures.set) Yes c.all.ensures.ran (λ x q k. search (rules, tests)) (λ x q k. search (rules, tests))

@@ -5,7 +5,7 @@ use Rattle.book.proofs.Fitting.{is_fitted}
 use Rattle.book.proofs.ledger.Ledger.mark_nodes.Goals as goal
 
 pub unwrap-requires : goal.unwrap-requires
-unwrap-requires c = is_fitted (ledger_rows c.args.self.now) c.args.nodes.now c.args.root (length c.args.marks.now) c.mark.result c.requires.1 c.mark.ensures.checked
+unwrap-requires c = is_fitted (ledger_rows c.args.self.now) c.args.order.now.nodes.now c.args.order.now.root (length c.args.marks.now) c.mark.result c.requires.1 c.mark.ensures.checked
 
 pub returns : goal.returns
 returns c = record {

@@ -8,7 +8,7 @@ use Rattle.book.proofs.ledger.Ledger.settle_all.Goals as goal
 pub returns-then-is_settled : goal.returns-then-is_settled
 returns-then-is_settled c =
     let l = c.args.self.now in
-    record { table = refl; grew = grew_none_all (ledger_rows l) l.held l.yes l.settled (kept_of l) c.args.pairs (c.if-is_settled.ensures refl) }
+    record { table = refl; grew = grew_none_all (ledger_rows l) l.held l.yes l.settled (kept_of l) c.args.pairs (c.if-is_settled.ensures.0 refl) }
 
 pub returns : goal.returns
 returns c =

@@ -7,6 +7,7 @@ use Rattle.showing.specs.Drafts.{pair_place}
 use Rattle.showing.specs.Drawing.{places}
 use Rattle.showing.proofs.Complete.{pair_place_low}
 use Rattle.showing.proofs.Drawing.{waits_none, waits_again, waits_less, ends_shown, ends_grown, used_low}
+use Rattle.showing.proofs.Questions.{asked_of}
 use Rattle.showing.proofs.drawn.steps.draw.Goals as goal
 
 pub loop-drawn-init : goal.loop-drawn-init
@@ -20,9 +21,8 @@ visit-requires c =
     let rows = rows_of c.args.question.now.prepared.now.table in
     let p = c.args.pair.0 in
     let q = c.args.pair.1 in
-    let (p<, q<) = c.requires.asked.of_rows p q c.requires.leans in
+    let (p<, q<) = (asked_of c.args.question.now).of_rows p q c.requires.leans in
     record {
-      asked = c.requires.asked;
       holds = c.loop-drawn.invariant.holds;
       within = subst (λ n. pair_place n p q < places rows) (sym c.count-n.ensures.is) (pair_place_low (length rows) p q p< q<);
     }
@@ -39,7 +39,7 @@ loop-drawn-smaller c =
     waits_less rows (related (length rows) c.args.question.now.leaned.now) (related (length rows) c.args.question.now.below.now) (pair_place c.count-n.result p q)
     c.args.nodes.now c.loop-drawn.nodes c.visit.new.nodes d.used v.used d.numbers v.numbers c.visit.result
     c.loop-drawn.invariant c.visit.ensures c.loop-drawn-test.true c.round.new.nodes w.used w.numbers c.round.ensures
-    (bounded_of t) c.requires.asked p q (ap (λ n. pair_place n p q) c.count-n.ensures.is) c.requires.leans c.requires.apart
+    (bounded_of t) (asked_of c.args.question.now) p q (ap (λ n. pair_place n p q) c.count-n.ensures.is) c.requires.leans c.requires.apart
 
 pub loop-drawn-preserved : goal.loop-drawn-preserved
 loop-drawn-preserved c =
@@ -61,7 +61,7 @@ returns c =
     let p = c.args.pair.0 in
     let q = c.args.pair.1 in
     let asked = pair_place c.count-n.result p q in
-    let (p<, q<) = c.requires.asked.of_rows p q c.requires.leans in
+    let (p<, q<) = (asked_of c.args.question.now).of_rows p q c.requires.leans in
     let grown = ends_grown rows leaned below asked c.args.nodes.now c.loop-drawn.nodes c.visit.new.nodes d.used v.used d.numbers v.numbers c.visit.result c.loop-drawn.invariant c.visit.ensures c.loop-drawn-test.false in
     record {
       few = used_low rows below c.visit.new.nodes v.used v.numbers c.visit.ensures.holds;
