@@ -1,14 +1,13 @@
 -- The rows that narrowing by the rule of barren rows strikes are the inhabited ones. Assumes nothing.
-use Rattle.std.proofs.Common.{◌≡◌, ℕ, ◌+◌, ◌*◌, ◌<◌, ◌≤◌, Bool, true, false, cond, not, ◌&&◌, ◌||◌, eqb, ltb, List, length, Some, None, Decides, Option, sym, refl, ap, ◌∙◌, ⊎_elim, arith, ◌/◌}
+use Rattle.std.proofs.Common.{◌≡◌, ℕ, ◌+◌, ◌<◌, ◌≤◌, Bool, true, false, cond, not, ◌&&◌, ◌||◌, eqb, ltb, List, length, Some, None, Decides, Option, sym, refl, ap, ◌∙◌, ⊎_elim, arith}
 use Rattle.std.specs.List.{slice_get}
 use Rattle.std.proofs.lemmas.Bool.{cases_lt, cases_eq, both_ways, or_cases, or_parts, and_parts, and_from, and_cases, cases_Bool, lt-ltb, le-ltb, ltb-true, eqb-true, eqb-false, eq-eqb, ne_eqb, not-true, not-false, not_from_false}
 use Rattle.std.proofs.lemmas.Bool.Decides.{nat_tests}
-use Rattle.sets.specs.Sets.{bit, member, word, top}
+use Rattle.sets.specs.Sets.{bit, member}
 use Rattle.sets.proofs.Lowest.{bit_zero}
 use Rattle.sets.proofs.Wider.{some_bit}
 use Rattle.narrowing.specs.Narrowing.{Stands, Narrowed}
 use Rattle.narrowing.proofs.Struck.{Reason, struck}
-use Rattle.forms.specs.Limits.{max_rows}
 use Rattle.forms.specs.Rows.{belongs}
 use Rattle.forms.specs.declared.Row.{Row}
 use Rattle.forms.specs.declared.Row.TheVariants.{Void, Nothing, Channel, Element, Union}
@@ -78,13 +77,6 @@ module _ (rows : List Row) where
       λ h. is p ∙ and_from (start p) (not (f p)) (all p ∙ lt-ltb p (length rows) (inhabited_below p h))
           (⊎_elim (λ e. absurd (never_inhabited f narrowed.stands p h e)) (not_from_false (f p)) (cases_Bool (f p))),
     )
-
--- the set of the first n numbers, where they are numbers of rows
-pub first_rows : (start : ℕ → Bool) (n : ℕ) → n ≤ max_rows → ((j : ℕ) → Decides (start j) ((j < n) × (j < word * (max_rows / word)) × (j < top))) → (j : ℕ) → start j ≡ ltb j n
-first_rows start n few is j = ⊎_elim
-    (λ low. (is j).1 (low, omega arith, omega arith) ∙ sym (lt-ltb j n low))
-    (λ high. ⊎_elim (λ on. let (low, _, _) = (is j).0 on in absurd (omega arith)) (λ off. off ∙ sym (le-ltb j n high)) (cases_Bool (start j)))
-    (cases_lt j n)
 
 -- the members of one set are taken from another, up to i
 abbrev pub Rest : (ℕ → Bool) → List ℕ → List ℕ → ℕ → Type 0

@@ -1,7 +1,7 @@
 -- The numbers below a bound, put into a set one after another. Assumes nothing.
-use Rattle.std.proofs.Common.{◌≡◌, ℕ, ◌+◌, ◌*◌, ◌<◌, ◌≤◌, ◌||◌, ◌⊎◌, eqb, List, length, replicate, Decides, sym, ◌∙◌, subst, inl, inr, ⊎_elim, arith}
+use Rattle.std.proofs.Common.{◌≡◌, ℕ, Bool, ltb, ◌+◌, ◌*◌, ◌<◌, ◌≤◌, ◌||◌, ◌⊎◌, eqb, List, length, replicate, Decides, sym, ◌∙◌, subst, inl, inr, ⊎_elim, arith}
 use lib.ListN.{length-replicate}
-use Rattle.std.proofs.lemmas.Bool.{both_ways, cases_eq, cases_lt, eq-eqb, eqb-true, or_cases, or_left, or_right}
+use Rattle.std.proofs.lemmas.Bool.{cases_Bool, lt-ltb, le-ltb, both_ways, cases_eq, cases_lt, eq-eqb, eqb-true, or_cases, or_left, or_right}
 use Rattle.sets.specs.Sets.{member, word, top}
 use Rattle.sets.proofs.Membership.{zeros_none}
 
@@ -47,3 +47,16 @@ module _ (room : ℕ) (words new : List ℕ) (i : ℕ) (f : Firsts room words i)
       (λ inside. ⊎_elim (λ low. firsts_put long inside low (within inside low)) (λ high. let out : (word * room ≤ i) ⊎ (top ≤ i) = inr high in firsts_past (past out) out) (cases_lt i top))
       (λ over. let out : (word * room ≤ i) ⊎ (top ≤ i) = inl over in firsts_past (past out) out)
       (cases_lt i (word * room))
+
+pub firsts_all : (room : ℕ) (words : List ℕ) (i n : ℕ) → Firsts room words i → i ≤ n → n ≤ i → (j : ℕ) → Decides (member words j) ((j < n) × (j < word * room) × (j < top))
+firsts_all room words i n f low high j = let (has, is) = f.is j in (
+  λ m. let (a, b, t) = has m in (omega arith, b, t),
+  λ (a, b, t). is (omega arith, b, t),
+)
+
+-- where there is room for all of them, they are what is below the bound
+pub firsts_are : (room n : ℕ) (set : ℕ → Bool) → ((j : ℕ) → Decides (set j) ((j < n) × (j < word * room) × (j < top))) → n ≤ word * room → n ≤ top → (j : ℕ) → set j ≡ ltb j n
+firsts_are room n set each fits small j = ⊎_elim
+    (λ low. (each j).1 (low, omega arith, omega arith) ∙ sym (lt-ltb j n low))
+    (λ high. ⊎_elim (λ on. let (low, _, _) = (each j).0 on in absurd (omega arith)) (λ off. off ∙ sym (le-ltb j n high)) (cases_Bool (set j)))
+    (cases_lt j n)

@@ -54,7 +54,8 @@ pub fn remove(words: &mut [u64], k: usize)
 
 // The numbers below n, as far as there is room for them.
 pub fn first<const W: usize>(n: usize) -> [u64; W]
-    ensures { (j : ℕ) → Decides (member result j) ((j < n) × (j < word * W) × (j < top)) }
+    ensures each { (j : ℕ) → Decides (member result j) ((j < n) × (j < word * W) × (j < top)) }
+    ensures all { n ≤ word * W → n ≤ top → (j : ℕ) → member result j ≡ nat_lt j n }
 {
     let mut words = [0; W];
     for k in 0..n {

@@ -1,5 +1,5 @@
 -- Sets of rows, filled place by place. Assumes nothing.
-use Rattle.std.proofs.Common.{◌≡◌, ℕ, ◌+◌, ◌*◌, ◌/◌, ◌%◌, ◌<◌, ◌≤◌, Bool, true, false, ◌&&◌, ◌||◌, eqb, ltb, ◌≢◌, List, length, get_or, replicate, sym, refl, ap, ◌∙◌, subst, ⊎_elim, arith}
+use Rattle.std.proofs.Common.{◌≡◌, ℕ, ◌+◌, ◌*◌, ◌/◌, ◌%◌, ◌<◌, ◌≤◌, Bool, true, ◌&&◌, ◌||◌, eqb, ltb, ◌≢◌, List, length, get_or, replicate, sym, ap, ◌∙◌, subst, ⊎_elim, arith}
 use lib.Bits.{bit_and}
 use lib.ListN.{length-replicate}
 use Rattle.std.proofs.lemmas.Bool.{cases_eq, cases_lt, eq-eqb, ne_eqb, lt-ltb, le-ltb, and_from, and_left}
@@ -39,14 +39,6 @@ module _ (most : ℕ) (pick : ℕ → Bool) where
     room = let r = g.room in omega arith;
     has = λ j. put (let r = g.room in omega arith) (omega arith) j ∙ ap (λ b. eqb j i || b) (g.has j) ∙ put_more j i on;
   }
-
--- where every place is picked, all places before i are there
-pub gathered_whole : (most : ℕ) (cells : List ℕ) (i : ℕ) → Gathered most (λ _. true) cells i → (j : ℕ) → member cells j ≡ ltb j i
-gathered_whole most cells i g j = g.has j ∙ whole (ltb j i)
-  where
-    whole : (b : Bool) → (b && true) ≡ b
-    whole true = refl
-    whole false = refl
 
 -- what is in the first i words of one set and among the rows, where each row has so many words
 abbrev pub overlaid : List ℕ → List ℕ → ℕ → ℕ → ℕ → Type 0

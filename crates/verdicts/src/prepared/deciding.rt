@@ -43,12 +43,8 @@ impl Prepared {
     fn square(&self) -> [u64; PAIR_WORDS]
         ensures { (k : ℕ) → member result k ≡ nat_lt k (count_in self.now * count_in self.now) }
     {
-        let mut pairs = [0; PAIR_WORDS];
         let n = self.count();
-        for k in 0..n * n {
-            sets::put(&mut pairs, k);
-        }
-        pairs
+        sets::first(n * n)
     }
 
     // Leaves of a set of pairs its largest part all pairs of which keep the rules within it. Places that are no pair's stay.

@@ -1,4 +1,4 @@
-use Rattle.std.proofs.Common.{◌≡◌, ℕ, ◌-◌, length, Some, None, sym, ◌∙◌, subst, subst₂}
+use Rattle.std.proofs.Common.{◌<◌, ◌*◌, ◌≡◌, ℕ, ◌-◌, length, Some, None, sym, ◌∙◌, subst, subst₂}
 use Rattle.std.specs.Option.{MatchOption}
 use Rattle.forms.specs.Buffers.{rows_of}
 use Rattle.verdicts.specs.Pairs.{related, pair_of}
@@ -16,7 +16,7 @@ returns-then-not-open c = draft_shut (rows_of c.args.question.now.prepared.now.t
 pub returns-in_err-p : goal.returns-in_err-p
 returns-in_err-p c =
     let k = c.args.place - c.count-n.result in
-    absurd (pair_none c.count-n.result k (subst (λ m. pair_of m k ≡ None) (sym c.count-n.ensures.is) (sym c.pair_at.ensures ∙ c.in_err-p.was)) (c.open.ensures.0 c.if-not-open.false).0)
+    absurd (pair_none c.count-n.result k (subst (λ m. pair_of m k ≡ None) (sym c.count-n.ensures.is) (sym c.pair_at.ensures ∙ c.in_err-p.was)) (subst (λ m. k < m * m) (sym c.count-n.ensures.is) (c.open.ensures.0 c.if-not-open.false).0))
 
 pub returns : goal.returns
 returns c =
