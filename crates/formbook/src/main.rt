@@ -23,9 +23,15 @@ const USAGE: &str = "formbook: tables of forms, and the orders that fit them
                                    prints two tables side by side as one; --turn swaps in and out in theirs
   formbook verdicts TABLE...       prints for each two rows whether all orders of the first fit the second
   formbook order TEXT              prints an order as a tree and as its table of nodes
+  formbook replay TABLE SCRIPT     makes a book over a table, performs the calls in a file, one a line, and prints the answers
+  formbook compare OURS THEIRS P Q [--turn]
+                                   says whether each order of row P of OURS is one of row Q of THEIRS, or shows one that is not
+  formbook button OURS P THEIRS:Q...
+                                   asks the same of several factories, and says GREEN or GREY for each
   formbook batch FILE              runs the commands in a file, one a line
 
-A TABLE is a file of row text (docs/FORMATS.md has the formats, docs/REFUSALS.md the refusals).";
+A TABLE is a file of row text, and rows are counted from 0. THEIRS:Q is a table, a colon and a row.
+docs/FORMATS.md has the formats, docs/REFUSALS.md the refusals, docs/CALLS.md the calls on a book.";
 
 // The words of a command.
 fn run(rt: &HostRuntime, words: &[&str]) -> Result<(), Fault> {

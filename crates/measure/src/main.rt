@@ -365,7 +365,7 @@ fn run(rt: &HostRuntime, words: &[&str]) -> anyhow::Result<()> {
         [word @ ("stack-read" | "stack-row" | "stack-deep"), ..] => stack(rt, word),
         _ => {
             println!(rt;
-                "measure rows | documents | verdicts TABLE... | stack-read | stack-row | stack-deep"
+                "measure rows | documents | verdicts TABLE... | books TABLE... | stack-read | stack-row | stack-deep | stack-ask TABLE... | stack-show TABLE..."
             )?;
             Ok(())
         }
