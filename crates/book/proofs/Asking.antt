@@ -1,4 +1,5 @@
 -- What an open book does at a call, from the pairs that it holds then. Assumes nothing.
+use Rattle.forms.proofs.Findings.{never}
 use Rattle.std.proofs.Common.{◌≡◌, ℕ, ◌<◌, Bool, cond, ◌↔◌, length, Decides, sym, refl, ap, ◌∙◌, subst, inl, inr, ⊎_elim}
 use Rattle.std.proofs.lemmas.Bool.{both_ways, cases_Bool, cond-true, cond-false}
 use Rattle.forms.specs.Buffers.{rows_of}
@@ -6,7 +7,6 @@ use Rattle.forms.specs.Refusals.Outcome.{gives}
 use Rattle.schema.specs.Worked.{Counts}
 use Rattle.schema.specs.Rules.{Below, Leans}
 use Rattle.schema.specs.Rules.Leans.{on_itself}
-use Rattle.schema.proofs.Findings.{never}
 use Rattle.schema.proofs.Inclusion.{below_is_inclusion}
 use Rattle.verdicts.specs.Pairs.{related}
 use Rattle.book.specs.Answers.{Adds, Leaves, After, Newly}

@@ -1,4 +1,5 @@
 -- What an open book does at a fit. Assumes nothing.
+use Rattle.forms.proofs.Findings.{never}
 use Rattle.std.proofs.Common.{◌≡◌, ℕ, ◌<◌, Bool, List, length, Decides, refl, subst, inl, ⊎_elim, IsOk, Ok, Err, Result, MatchResult}
 use Rattle.forms.specs.Buffers.{rows_of}
 use Rattle.forms.specs.Refusals.{Refusal, Outcome}
@@ -8,7 +9,6 @@ use Rattle.forms.specs.declared.Row.{Row}
 use Rattle.documents.specs.declared.nodes.Node.{Node}
 use Rattle.schema.specs.Rules.{Below}
 use Rattle.schema.specs.Rules.Leans.{on_itself}
-use Rattle.schema.proofs.Findings.{never}
 use Rattle.schema.proofs.Offered.{at_below}
 use Rattle.verdicts.specs.Pairs.{related, Leaned}
 use Rattle.fitting.specs.Faults.{fit_refusal}

@@ -1,4 +1,5 @@
 -- Opening, clearing, and taking in a relation. Assumes nothing.
+use Rattle.forms.proofs.Findings.{never}
 use Rattle.std.proofs.Common.{◌≡◌, ℕ, ◌+◌, ◌*◌, ◌/◌, ◌%◌, ◌<◌, true, false, not, ◌&&◌, List, length, replicate, sym, refl, ap, ◌∙◌, subst, subst₂, ⊎_elim, arith}
 use lib.ListN.{length-replicate}
 use Rattle.std.proofs.lemmas.Nat.{mul-add-lt, div-add-mod', div_below, mod_below}
@@ -11,7 +12,6 @@ use Rattle.forms.specs.Refusals.Outcome.{refuses, gives}
 use Rattle.forms.specs.declared.Row.{Row}
 use Rattle.sets.proofs.Membership.{zeros_none}
 use Rattle.schema.specs.Rules.{Keeps, Closed}
-use Rattle.schema.proofs.Findings.{never}
 use Rattle.verdicts.specs.Facts.{admitted_of}
 use Rattle.verdicts.specs.Pairs.{related}
 use Rattle.verdicts.proofs.Deciding.{between_parts, between_from, place_div, place_mod}

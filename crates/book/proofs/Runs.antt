@@ -3,14 +3,13 @@ use Rattle.std.proofs.Common.{◌≡◌, ℕ, zero, suc, ◌+◌, ◌*◌, ◌<�
 use Rattle.std.specs.List.{slice_get}
 use Rattle.std.proofs.lemmas.List.{take_all, take-append-le}
 use Rattle.std.proofs.lemmas.Bool.{cases_lt}
-use Rattle.forms.proofs.Findings.{nth_below}
+use Rattle.forms.proofs.Findings.{nth_below, never}
 use Rattle.forms.specs.Refusals.{Refusal, Outcome}
 use Rattle.forms.specs.Refusals.Outcome.{refuses, gives}
 use Rattle.forms.specs.declared.Row.{Row}
 use Rattle.documents.specs.declared.nodes.Node.{Node}
 use Rattle.schema.specs.Worked.{Counts}
 use Rattle.schema.specs.Rules.Leans.{on_itself}
-use Rattle.schema.proofs.Findings.{never}
 use Rattle.fitting.proofs.Refusing.{fittable_or_one_fault}
 use Rattle.book.specs.Answers.{Pairs, InTable, Adds, Leaves, After, Newly, Answered, AskAnswered, OfferAnswered, FitAnswered, FitTaken}
 use Rattle.book.specs.Books.{ShutAnswered}

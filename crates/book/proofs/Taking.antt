@@ -1,4 +1,5 @@
 -- What one book holds as yes is taken by another over equal rows. Assumes nothing.
+use Rattle.forms.proofs.Findings.{never}
 use Rattle.std.proofs.Common.{◌≡◌, ℕ, true, List, length, Ok, Err, sym, ◌∙◌, subst, inl}
 use Rattle.sets.specs.Sets.{member}
 use Rattle.forms.specs.Refusals.{Outcome}
@@ -8,7 +9,6 @@ use Rattle.relation.specs.Admission.{Admitted}
 use Rattle.relation.specs.Faults.{admission_refusal}
 use Rattle.relation.specs.declared.AdmissionFault.{AdmissionFault}
 use Rattle.relation.proofs.Judging.{no_fault}
-use Rattle.schema.proofs.Findings.{never}
 use Rattle.verdicts.proofs.Deciding.{between_parts}
 use Rattle.verdicts.specs.Pairs.{related}
 use Rattle.book.specs.Answers.{InTable, HeldAsYes}

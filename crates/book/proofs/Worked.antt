@@ -1,4 +1,5 @@
 -- What an empty book answers in the worked cases follows from what holds of the worked table. Assumes nothing.
+use Rattle.forms.proofs.Findings.{never}
 use Rattle.std.proofs.Common.{◌≡◌, ℕ, ◌+◌, ◌*◌, ◌<◌, eqb, List, [], ◌∷◌, length, take, sym, refl, ap, ◌∙◌, subst, inl, ⊎_elim, arith}
 use Rattle.std.specs.List.{AllByRecursion}
 use Rattle.std.proofs.ByRecursion.{All-weaker}
@@ -15,7 +16,6 @@ use Rattle.schema.specs.Rules.{Below, Leans, Keeps, IsDocument}
 use Rattle.schema.specs.Rules.Leans.{on_itself}
 use Rattle.schema.specs.Worked.{table, alone, Shows, Case, Holds, cases}
 use Rattle.schema.specs.Worked.Case.{below, below_leaning, not_below, shown_only_by, breaks_alone}
-use Rattle.schema.proofs.Findings.{never}
 use Rattle.schema.proofs.Order.{keeps_more}
 use Rattle.schema.proofs.Worked.{worked_cases}
 use Rattle.showing.specs.Showing.{Witnesses}

@@ -10,10 +10,10 @@ use Rattle.sets.proofs.Parts.{part_member, whole_rest, joined_in, joined_more, j
 use Rattle.sets.proofs.Tallies.{tally_part}
 use Rattle.forms.specs.Limits.{max_rows}
 use Rattle.forms.specs.declared.Row.{Row}
-use Rattle.forms.specs.declared.Row.TheVariants.{Void, Nothing, Channel, Element, Union}
+use Rattle.forms.specs.declared.Row.TheVariants.{Union}
 use Rattle.forms.specs.Schema.{Offers}
 use Rattle.forms.specs.Schema.Offers.{left, right}
-use Rattle.relation.specs.Cells.{cell, side_left, side_right, Sound, Settled, Grown, RowAdded, Spread}
+use Rattle.relation.specs.Cells.{cell, Sound, Settled, Grown, RowAdded, Spread}
 
 -- how many words a row's set takes
 abbrev row_words : ℕ
@@ -89,21 +89,6 @@ pub record Spreading (rows : List Row) (old new : List ℕ) (grown : Bool) (i : 
   pub sound : Sound rows old → Sound rows new
   pub settled : grown ≡ false → (p : ℕ) → p < i → Settled rows old p
 
--- what the sides of a row offer, the row offers
-offers_left : (rows : List Row) (p o : ℕ) (row : Row) → slice_get rows p ≡ Some row → Offers rows (side_left row p) o → Offers rows p o
-offers_left rows p o Void e h = h
-offers_left rows p o Nothing e h = h
-offers_left rows p o (Channel k s) e h = h
-offers_left rows p o (Element l i f) e h = h
-offers_left rows p o (Union l r) e h = left e h
-
-offers_right : (rows : List Row) (p o : ℕ) (row : Row) → slice_get rows p ≡ Some row → Offers rows (side_right row p) o → Offers rows p o
-offers_right rows p o Void e h = h
-offers_right rows p o Nothing e h = h
-offers_right rows p o (Channel k s) e h = h
-offers_right rows p o (Element l i f) e h = h
-offers_right rows p o (Union l r) e h = right e h
-
 module _ (rows : List Row) (old : List ℕ) where
   -- a set that is added soundly leaves the sets sound
   added_sound : (p k : ℕ) (a b : List ℕ) (x : Bool) → word * length a ≡ max_rows * max_rows → ((o : ℕ) → Offers rows k o → Offers rows p o) → RowAdded p k a b x → Sound rows a → Sound rows b
@@ -115,18 +100,29 @@ module _ (rows : List Row) (old : List ℕ) where
       (cases_lt k max_rows))
       (r.from q o q< o< e)
 
-  module _ (room : word * length old ≡ max_rows * max_rows) (new : List ℕ) (grown : Bool) (i : ℕ) (s : Spreading rows old new grown i) (row : Row) (is : slice_get rows i ≡ Some row) where
-    pub spreading_more : (mid end : List ℕ) (x y : Bool) → length mid ≡ length new → length end ≡ length mid → RowAdded i (side_left row i) new mid x → RowAdded i (side_right row i) mid end y
+  module _ (room : word * length old ≡ max_rows * max_rows) (new : List ℕ) (grown : Bool) (i : ℕ) (s : Spreading rows old new grown i) where
+    -- a row that is no union has no sides
+    pub spreading_past : ((l r : ℕ) → slice_get rows i ≡ Some (Union l r) → ⊥) → Spreading rows old new grown (i + 1)
+    spreading_past leaf = record {
+      growth = s.growth;
+      size = s.size;
+      sound = s.sound;
+      settled = λ e p h. ⊎_elim
+          (s.settled e p)
+          (λ above l r is. let same : p ≡ i = omega arith in absurd (leaf l r (ap (slice_get rows) (sym same) ∙ is)))
+          (cases_lt p i);
+    }
+
+    pub spreading_more : (l r : ℕ) → slice_get rows i ≡ Some (Union l r) → (mid end : List ℕ) (x y : Bool) → length mid ≡ length new → length end ≡ length mid → RowAdded i l new mid x → RowAdded i r mid end y
         → Spreading rows old end ((grown || x) || y) (i + 1)
-    spreading_more mid end x y len-mid len-end first second =
+    spreading_more l r is mid end x y len-mid len-end first second =
         let size = s.size in
         let two = grown_then old new mid grown x size s.growth first.growth in
         let all = grown_then old mid end (grown || x) y (omega arith) two second.growth in
         record {
           growth = all;
           size = omega arith;
-          sound = λ start. added_sound i (side_right row i) mid end y (omega arith) (λ o. offers_right rows i o row is) second
-              (added_sound i (side_left row i) new mid x (omega arith) (λ o. offers_left rows i o row is) first (s.sound start));
+          sound = λ start. added_sound i r mid end y (omega arith) (λ o h. right is h) second (added_sound i l new mid x (omega arith) (λ o h. left is h) first (s.sound start));
           settled = λ e p h.
               let (e-two, e-y) = or_parts (grown || x) y e in
               let (e-grown, e-x) = or_parts grown x e-two in
@@ -139,17 +135,19 @@ module _ (rows : List Row) (old : List ℕ) where
       where
         -- nothing grew, so that what was added was there
         here : ((k : ℕ) → member new k ≡ member old k) → ((k : ℕ) → member mid k ≡ member old k) → ((k : ℕ) → member end k ≡ member old k) → Settled rows old i
-        here n m e row' is' o o< h =
-            let same : row' ≡ row = cc in
+        here n m e l' r' is' o o< h =
+            let both : Union l' r' ≡ Union l r = cc in
+            let left-is : l' ≡ l = cc in
+            let right-is : r' ≡ r = cc in
             ⊎_elim
-            (λ l. sym (m (i * max_rows + o)) ∙ first.has o o< (n (side_left row i * max_rows + o) ∙ subst (λ z. cell old (side_left z i) o ≡ true) same l))
-            (λ r. sym (e (i * max_rows + o)) ∙ second.has o o< (m (side_right row i * max_rows + o) ∙ subst (λ z. cell old (side_right z i) o ≡ true) same r))
+            (λ a. sym (m (i * max_rows + o)) ∙ first.has o o< (n (l * max_rows + o) ∙ subst (λ z. cell old z o ≡ true) left-is a))
+            (λ b. sym (e (i * max_rows + o)) ∙ second.has o o< (m (r * max_rows + o) ∙ subst (λ z. cell old z o ≡ true) right-is b))
             h
 
   pub spreading_all : (new : List ℕ) (grown : Bool) (i : ℕ) → length rows ≤ i → Spreading rows old new grown i → Spread rows old new grown
   spreading_all new grown i all s = record {
     growth = s.growth;
     sound = s.sound;
-    settled = λ e p h row is o o< sides. s.growth.same e (p * max_rows + o)
-        ∙ s.settled e p (omega arith) row is o o< (⊎_elim (λ l. inl (sym (s.growth.same e (side_left row p * max_rows + o)) ∙ l)) (λ r. inr (sym (s.growth.same e (side_right row p * max_rows + o)) ∙ r)) sides);
+    settled = λ e p h l r is o o< sides. s.growth.same e (p * max_rows + o)
+        ∙ s.settled e p (omega arith) l r is o o< (⊎_elim (λ a. inl (sym (s.growth.same e (l * max_rows + o)) ∙ a)) (λ b. inr (sym (s.growth.same e (r * max_rows + o)) ∙ b)) sides);
   }

@@ -14,7 +14,7 @@ use Rattle.forms.specs.declared.Row.TheVariants.{Void, Nothing, Channel, Element
 use Rattle.forms.specs.Schema.{Inhabited}
 use Rattle.forms.specs.Schema.Inhabited.{of_void, of_channel, of_element, of_left, of_right}
 use Rattle.relation.specs.Barren.{lacks, barren_at, barren, barren_lawful}
-use Rattle.relation.proofs.Reaching.{nth_below}
+use Rattle.forms.proofs.Findings.{nth_below}
 
 -- a label set with a label is not empty
 labelled : (x l : ℕ) → belongs x l ≡ true → eqb l 0 ≡ true → ⊥
@@ -22,11 +22,11 @@ labelled x l e z = both_ways (bit l x) (ap (λ n. bit n x) (eqb-true l 0 z) ∙ 
 
 module _ (rows : List Row) where
   pub inhabited_below : (p : ℕ) → Inhabited rows p → p < length rows
-  inhabited_below p (of_void e) = nth_below rows p _ e
-  inhabited_below p (of_channel e) = nth_below rows p _ e
-  inhabited_below p (of_element x e b i n) = nth_below rows p _ e
-  inhabited_below p (of_left e h) = nth_below rows p _ e
-  inhabited_below p (of_right e h) = nth_below rows p _ e
+  inhabited_below p (of_void e) = nth_below rows p e
+  inhabited_below p (of_channel e) = nth_below rows p e
+  inhabited_below p (of_element x e b i n) = nth_below rows p e
+  inhabited_below p (of_left e h) = nth_below rows p e
+  inhabited_below p (of_right e h) = nth_below rows p e
 
   module _ (f : ℕ → Bool) where
     -- a number that is lacking is that of no row, or is in the set

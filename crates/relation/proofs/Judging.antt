@@ -1,8 +1,7 @@
 -- Rows with numbers outside, and why there is one fault at most. Assumes nothing.
-use Rattle.std.proofs.Common.{◌≡◌, ℕ, ◌<◌, ◌⊎◌, List, [], ◌∷◌, length, Some, Ok, Err, Result, refl, ap, inl, inr, ⊎_elim, arith}
+use Rattle.std.proofs.Common.{◌≡◌, ℕ, ◌<◌, List, [], ◌∷◌, length, Some, Ok, Err, Result, refl, ap, inl, inr, ⊎_elim, arith}
 use Rattle.std.specs.List.{slice_get}
-use Rattle.std.proofs.lemmas.Bool.{cases_lt, cases_order}
-use Rattle.forms.specs.Places.{Nowhere, Lowest}
+use Rattle.forms.specs.Places.{Nowhere}
 use Rattle.forms.specs.Refusals.{Refusal}
 use Rattle.forms.specs.Refusals.Refusal.{refusal}
 use Rattle.forms.specs.Rows.{NumbersBelow}
@@ -16,39 +15,28 @@ use Rattle.relation.specs.Admission.{Outside, SharesLabel, Admitted, Finds, Admi
 use Rattle.relation.specs.Admission.Finds.{no_rows, number_outside, label_twice}
 use Rattle.relation.specs.Faults.{admission_refusal}
 use Rattle.relation.specs.Judged.{Judged}
-use Rattle.relation.proofs.Reaching.{nth_below}
+use Rattle.forms.proofs.Findings.{Decided, nth_below, lowest_one, both_or_not, below_or_not}
 
 pub outside_below : (rows : List Row) (p : ℕ) → Outside rows p → p < length rows
-outside_below rows p (row, is, _) = nth_below rows p row is
+outside_below rows p (row, is, _) = nth_below rows p is
 
 pub offering_below : (rows : List Row) (p o : ℕ) → Offers rows p o → p < length rows
-offering_below rows p o (itself {row} e nu) = nth_below rows p row e
-offering_below rows p o (left {l} {r} e h) = nth_below rows p (Union l r) e
-offering_below rows p o (right {l} {r} e h) = nth_below rows p (Union l r) e
+offering_below rows p o (itself {row} e nu) = nth_below rows p e
+offering_below rows p o (left {l} {r} e h) = nth_below rows p e
+offering_below rows p o (right {l} {r} e h) = nth_below rows p e
 
 pub shares_below : (rows : List Row) (p : ℕ) → SharesLabel rows p → 0 < length rows
 shares_below rows p h =
     let g = h.first in
-    let lt = nth_below rows h.one (Element g.labels g.inside g.following) g.is in
+    let lt = nth_below rows h.one g.is in
     omega arith
 
 pub sharing_below : (rows : List Row) (p : ℕ) → SharesLabel rows p → p < length rows
 sharing_below rows p h = offering_below rows p h.one h.first.offered
 
-lowest_one : (P : ℕ → Type 0) (a b : ℕ) → Lowest P a → Lowest P b → a ≡ b
-lowest_one P a b (at_a, none-a) (at_b, none-b) = ⊎_elim (λ e. e) (⊎_elim (λ lt. absurd (none-b a lt at_a)) (λ gt. absurd (none-a b gt at_b))) (cases_order a b)
-
-both_or_not : {P Q : Type 0} → (P → ⊥) ⊎ P → (Q → ⊥) ⊎ Q → ((P × Q) → ⊥) ⊎ (P × Q)
-both_or_not (inl a) q = inl (λ (x, y). a x)
-both_or_not (inr a) (inl b) = inl (λ (x, y). b y)
-both_or_not (inr a) (inr b) = inr (a, b)
-
-below_or_not : (k n : ℕ) → (k < n → ⊥) ⊎ (k < n)
-below_or_not k n = ⊎_elim inr (λ h. inl (λ l. omega arith)) (cases_lt k n)
-
-inside_or_not : (n : ℕ) (row : Row) → (NumbersBelow n row → ⊥) ⊎ NumbersBelow n row
-inside_or_not n Void = inr tt
-inside_or_not n Nothing = inr tt
+inside_or_not : (n : ℕ) (row : Row) → Decided (NumbersBelow n row)
+inside_or_not n Void = inl tt
+inside_or_not n Nothing = inl tt
 inside_or_not n (Channel k s) = below_or_not s n
 inside_or_not n (Element l i f) = both_or_not (below_or_not i n) (below_or_not f n)
 inside_or_not n (Union l r) = both_or_not (below_or_not l n) (below_or_not r n)
@@ -56,7 +44,7 @@ inside_or_not n (Union l r) = both_or_not (below_or_not l n) (below_or_not r n)
 module _ (rows : List Row) where
   -- in a table without rows with numbers outside, all numbers are inside
   pub all_inside : Nowhere (Outside rows) → (p : ℕ) (row : Row) → slice_get rows p ≡ Some row → NumbersBelow (length rows) row
-  all_inside none p row is = ⊎_elim (λ out. absurd (none p (row, is, out))) (λ i. i) (inside_or_not (length rows) row)
+  all_inside none p row is = ⊎_elim (λ i. i) (λ out. absurd (none p (row, is, out))) (inside_or_not (length rows) row)
 
   pub one_fault : (e f : Refusal) → Finds rows e → Finds rows f → f ≡ e
   one_fault e f (no_rows z) (no_rows y) = refl

@@ -13,7 +13,7 @@ use Rattle.forms.specs.declared.Row.TheVariants.{Void, Nothing, Channel, Element
 use Rattle.forms.specs.Schema.{Offers, Inhabited}
 use Rattle.relation.specs.Admission.{Gives, SharesLabel}
 use Rattle.relation.specs.Faults.{label_set_of}
-use Rattle.relation.proofs.Reaching.{nth_below}
+use Rattle.forms.proofs.Findings.{nth_below}
 
 pub meets_decides : (a b : ℕ) → Decides (not (eqb (bit_and a b) 0)) ((x : ℕ) × (belongs x a ≡ true) × (belongs x b ≡ true))
 meets_decides a b = (
@@ -103,4 +103,4 @@ module _ (rows : List Row) (p : ℕ) where
       h.different (s.apart h.one h.other h.label (below h.one h.first) (below h.other h.second) h.first h.second)
     where
       below : (e : ℕ) → Gives rows p e h.label → e < i
-      below e g = let lt = nth_below rows e (Element g.labels g.inside g.following) g.is in omega arith
+      below e g = let lt = nth_below rows e g.is in omega arith

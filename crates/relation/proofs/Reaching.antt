@@ -2,24 +2,16 @@
 use Rattle.std.proofs.Common.{◌≡◌, ℕ, ◌+◌, ◌-◌, ◌*◌, ◌<◌, ◌≤◌, Bool, true, false, ◌||◌, eqb, List, length, replicate, Some, Decides, sym, ◌∙◌, subst, inl, inr, ⊎_elim, arith}
 use lib.ListN.{length-replicate}
 use Rattle.std.specs.List.{slice_get}
-use Rattle.std.proofs.lemmas.Option.{slice_get_past}
 use Rattle.std.proofs.lemmas.Bool.{cases_lt, both_ways, or_cases, or_left, or_right, eqb-true, eq-eqb}
 use Rattle.sets.specs.Sets.{member, tally, word, top}
 use Rattle.sets.proofs.Membership.{zeros_none}
 use Rattle.sets.proofs.Tallies.{tally_le}
 use Rattle.forms.specs.Limits.{max_rows}
 use Rattle.forms.specs.declared.Row.{Row}
-use Rattle.forms.specs.declared.Row.TheVariants.{Union}
 use Rattle.forms.specs.Schema.{Offers, NoUnion}
 use Rattle.forms.specs.Schema.Offers.{itself, left, right}
+use Rattle.forms.proofs.Findings.{nth_below}
 use Rattle.relation.specs.Cells.{cell, Sound, HoldsLeaves, Spread}
-
-pub never : {A : Type 0} → ◌≡◌ {A = ℕ} 0 1 → A
-never e = absurd (omega arith)
-
--- a number that has a row is below the count
-pub nth_below : (rows : List Row) (p : ℕ) (row : Row) → slice_get rows p ≡ Some row → p < length rows
-nth_below rows p row e = ⊎_elim (λ h. h) (λ past. let none = slice_get_past rows p past in never (cc)) (cases_lt p (length rows))
 
 less_left : (n a b : ℕ) → a < b → b ≤ n → n - b < n - a
 less_left n a b h k = omega arith
@@ -67,7 +59,7 @@ module _ (rows : List Row) where
         }
 
   pub leafing_all : (cells : List ℕ) (i : ℕ) → length rows ≤ i → Leafing cells i → HoldsLeaves rows cells
-  leafing_all cells i all l p row e nu = l.leaves p row (let h = nth_below rows p row e in omega arith) e nu
+  leafing_all cells i all l p row e nu = l.leaves p row (let h = nth_below rows p e in omega arith) e nu
 
   -- between two rounds
   pub record Reaching (cells : List ℕ) : Type 0 where
@@ -97,5 +89,5 @@ module _ (rows : List Row) where
       where
         complete : (p o : ℕ) → o < max_rows → Offers rows p o → cell new p o ≡ true
         complete p o o< (itself {row} is nu) = reaching_more.leaves p row is nu
-        complete p o o< (left {l} {r} is h) = s.settled e p (nth_below rows p (Union l r) is) (Union l r) is o o< (inl (complete l o o< h))
-        complete p o o< (right {l} {r} is h) = s.settled e p (nth_below rows p (Union l r) is) (Union l r) is o o< (inr (complete r o o< h))
+        complete p o o< (left {l} {r} is h) = s.settled e p (nth_below rows p is) l r is o o< (inl (complete l o o< h))
+        complete p o o< (right {l} {r} is h) = s.settled e p (nth_below rows p is) l r is o o< (inr (complete r o o< h))

@@ -4,27 +4,12 @@ use Rattle.std.specs.List.{slice_get}
 use Rattle.sets.specs.Sets.{member, tally, word}
 use Rattle.forms.specs.Limits.{max_rows}
 use Rattle.forms.specs.declared.Row.{Row}
-use Rattle.forms.specs.declared.Row.TheVariants.{Void, Nothing, Channel, Element, Union}
+use Rattle.forms.specs.declared.Row.TheVariants.{Union}
 use Rattle.forms.specs.Schema.{Offers, NoUnion}
 
 -- o belongs to the set of row p
 abbrev pub cell : List ℕ → ℕ → ℕ → Bool
 cell words p o = member words (p * max_rows + o)
-
--- the sides of a union; of another row p itself
-abbrev pub side_left : Row → ℕ → ℕ
-side_left Void p = p
-side_left Nothing p = p
-side_left (Channel k s) p = p
-side_left (Element l i f) p = p
-side_left (Union l r) p = l
-
-abbrev pub side_right : Row → ℕ → ℕ
-side_right Void p = p
-side_right Nothing p = p
-side_right (Channel k s) p = p
-side_right (Element l i f) p = p
-side_right (Union l r) p = r
 
 -- no set has a row that is not offered
 abbrev pub Sound : List Row → List ℕ → Type 0
@@ -34,10 +19,9 @@ Sound rows cells = (p o : ℕ) → p < max_rows → o < max_rows → cell cells 
 abbrev pub HoldsLeaves : List Row → List ℕ → Type 0
 HoldsLeaves rows cells = (p : ℕ) (row : Row) → slice_get rows p ≡ Some row → NoUnion row → cell cells p p ≡ true
 
--- the set of row p has those of its sides
+-- the set of row p has those of its sides, if it is a union
 abbrev pub Settled : List Row → List ℕ → ℕ → Type 0
-Settled rows cells p =
-    (row : Row) → slice_get rows p ≡ Some row → (o : ℕ) → o < max_rows → (cell cells (side_left row p) o ≡ true) ⊎ (cell cells (side_right row p) o ≡ true) → cell cells p o ≡ true
+Settled rows cells p = (l r : ℕ) → slice_get rows p ≡ Some (Union l r) → (o : ℕ) → o < max_rows → (cell cells l o ≡ true) ⊎ (cell cells r o ≡ true) → cell cells p o ≡ true
 
 -- every set has what it had, and no more unless one grew: then there are more members
 pub record Grown (old new : List ℕ) (grown : Bool) : Type 0 where
@@ -51,7 +35,7 @@ pub record RowAdded (p k : ℕ) (old new : List ℕ) (grown : Bool) : Type 0 whe
   pub from : (q o : ℕ) → q < max_rows → o < max_rows → cell new q o ≡ true → (cell old q o ≡ true) ⊎ ((q ≡ p) × (cell old k o ≡ true))
   pub has : (o : ℕ) → o < max_rows → cell old k o ≡ true → cell new p o ≡ true
 
--- the sets of its sides are added to that of each row
+-- the sets of its sides are added to that of each union
 pub record Spread (rows : List Row) (old new : List ℕ) (grown : Bool) : Type 0 where
   pub growth : Grown old new grown
   pub sound : Sound rows old → Sound rows new

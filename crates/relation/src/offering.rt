@@ -4,7 +4,7 @@ ghost use Rattle.sets.specs.Sets.{word, bit};
 ghost use Rattle.forms.specs.Buffers.{rows_of};
 ghost use Rattle.forms.specs.Limits.{max_rows};
 ghost use Rattle.forms.specs.Schema.{Offers, NoUnion};
-ghost use Rattle.relation.specs.Cells.{cell, side_left, side_right, Sound, HoldsLeaves, RowAdded, Spread};
+ghost use Rattle.relation.specs.Cells.{cell, Sound, HoldsLeaves, RowAdded, Spread};
 
 use forms::buffer::RowBuffer;
 use forms::{MAX_ROWS, Row};
@@ -46,9 +46,8 @@ fn themselves(table: &RowBuffer) -> [u64; CELL_WORDS]
 }
 
 // Adds to the set of row p that of row k, and says whether it grew. A number past the table has no set.
-fn add_row(cells: &mut [u64], p: usize, k: usize) -> bool
-    requires room { word * length cells.old ≡ max_rows * max_rows }
-    requires within { p < max_rows }
+fn add_row(cells: &mut [u64; CELL_WORDS], p: usize, k: usize) -> bool
+    requires { p < max_rows }
     ensures { RowAdded p k cells.old cells.new result }
 {
     if k >= MAX_ROWS {
@@ -59,27 +58,16 @@ fn add_row(cells: &mut [u64], p: usize, k: usize) -> bool
     sets::join(&mut cells[p * ROW_WORDS..(p + 1) * ROW_WORDS], &other) > 0
 }
 
-// The sides of a union; of another row p itself.
-fn sides(row: Row, p: usize) -> (usize, usize)
-    ensures { result ≡ (side_left row p, side_right row p) }
-{
-    match row {
-        Row::Union(left, right) => (left as usize, right as usize),
-        _ => (p, p),
-    }
-}
-
-// Adds to each row's set those of its sides, and says whether one grew.
-fn spread(table: &RowBuffer, cells: &mut [u64]) -> bool
-    requires { word * length cells.old ≡ max_rows * max_rows }
+// Adds to the set of each union those of its sides, and says whether one grew.
+fn spread(table: &RowBuffer, cells: &mut [u64; CELL_WORDS]) -> bool
     ensures { Spread (rows_of table.now) cells.old cells.new result }
 {
     let mut grown = false;
     for (p, row) in table.rows().iter().enumerate() {
-        let (left, right) = sides(*row, p);
-        let first = add_row(cells, p, left);
-        let second = add_row(cells, p, right);
-        grown = grown | first | second;
+        if let Row::Union(left, right) = row {
+            grown |= add_row(cells, p, *left as usize);
+            grown |= add_row(cells, p, *right as usize);
+        }
     }
     grown
 }

@@ -1,4 +1,5 @@
 -- `Below` is inclusion of documents.
+use Rattle.forms.proofs.Findings.{never}
 use Rattle.std.proofs.Common.{◌≡◌, ℕ, ◌<◌, true, false, List, Some, refl, subst, subst₂, inl, inr, ⊎_elim}
 use Rattle.std.proofs.lemmas.Bool.{cases_Bool}
 use Rattle.forms.specs.declared.Row.{Row}
@@ -16,7 +17,6 @@ use Rattle.forms.specs.Schema.Inhabited.{of_void, of_channel, of_element, of_lef
 use Rattle.forms.specs.Documents.Document.{void, reference, element}
 use Rattle.schema.specs.Rules.Fits.{fits_void, fits_reference, fits_element}
 use Rattle.schema.specs.Theorems.{Confined, Witness, BelowIsSound, BelowOrWitness, BelowIsInclusion}
-use Rattle.schema.proofs.Findings.{never}
 use Rattle.schema.proofs.Offered.{at_below, label_below}
 use Rattle.schema.proofs.Kept.{Fails}
 use Rattle.schema.proofs.Kept.Fails.{without_void, lacks_channel, lacks_label, differs_inside, differs_following}

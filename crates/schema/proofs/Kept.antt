@@ -1,4 +1,5 @@
 -- Whether a pair keeps the rules within a relation can be decided, and where it does not, one of five reasons is found.
+use Rattle.forms.proofs.Findings.{never}
 use Rattle.std.proofs.Common.{◌≡◌, ℕ, ◌^◌, ◌<◌, true, false, ◌⊎◌, List, length, Some, None, Option, refl, subst, inl, inr, ⊎_elim}
 use Rattle.std.proofs.lemmas.Bool.{both_ways, cases_Bool}
 use Rattle.forms.specs.declared.Row.{Row}
@@ -11,7 +12,8 @@ use Rattle.forms.specs.Rows.{belongs}
 use Rattle.forms.specs.Schema.{Offers, Inhabited}
 use Rattle.schema.specs.Rules.{Bounded, OffersVoid, OffersChannel, OffersElement, ◌⊑◌, Relation, Payloads, Keeps}
 use Rattle.schema.specs.Rules.◌⊑◌.{same, both}
-use Rattle.schema.proofs.Findings.{never, each_below, where_holds, both_hold, holds_or_not}
+use Rattle.schema.proofs.Findings.{where_holds, both_hold, holds_or_not}
+use Rattle.narrowing.proofs.Striking.{each_below}
 use Rattle.schema.proofs.Offered.{offered_below, offers_or_not, inhabited_or_not, each_label}
 
 pub order_or_not : (k k' : Capability) → (k ⊑ k') ⊎ (k ⊑ k' → ⊥)

@@ -9,7 +9,7 @@ use Rattle.schema.specs.Rules.{Bounded, OffersChannel, OffersElement, ◌⊑◌,
 use Rattle.schema.specs.Rules.Names.{receives, sends, inside, following}
 use Rattle.schema.specs.Rules.Leans.{on_itself, on_named}
 use Rattle.schema.specs.Theorems.{Confined, LeansIsDecided, LeanedTellsBelow}
-use Rattle.schema.proofs.Narrowing.{Contained, Lawful, decided}
+use Rattle.narrowing.proofs.Striking.{Contained, Lawful, decided}
 use Rattle.schema.proofs.Findings.{told, told_true, told_false, holds_or_not, where_holds, both_hold}
 use Rattle.schema.proofs.Offered.{each_label}
 use Rattle.schema.proofs.Kept.{order_or_not, each_channel, each_element, small}

@@ -1,5 +1,4 @@
 pub mod Findings
-pub mod Narrowing
 pub mod Offered
 pub mod Kept
 pub mod Order

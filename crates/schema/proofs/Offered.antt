@@ -1,4 +1,5 @@
 -- What a row offers, and whether some document fits it, can be decided.
+use Rattle.forms.proofs.Findings.{never}
 use Rattle.std.proofs.Common.{◌≡◌, ℕ, zero, suc, ◌/◌, ◌%◌, ◌^◌, ◌<◌, Bool, true, false, not, ◌&&◌, ◌||◌, eqb, ltb, ◌⊎◌, List, [], ◌∷◌, length, Some, None, Option, refl, subst, inl, inr, ⊎_elim, arith}
 use native.Mathlib.Nat.{pow-le-pow_right, div-eq_of_lt}
 use Rattle.std.proofs.lemmas.Option.{slice_get_past}
@@ -12,8 +13,8 @@ use Rattle.forms.specs.Schema.{NoUnion, Offers, Inhabited}
 use Rattle.schema.specs.Rules.{Bounded}
 use Rattle.forms.specs.Schema.Offers.{itself, left, right}
 use Rattle.forms.specs.Schema.Inhabited.{of_void, of_channel, of_element, of_left, of_right}
-use Rattle.schema.proofs.Findings.{never, each_below, told, told_true, told_false}
-use Rattle.schema.proofs.Narrowing.{Contained, decided}
+use Rattle.schema.proofs.Findings.{told, told_true, told_false}
+use Rattle.narrowing.proofs.Striking.{each_below, Contained, decided}
 
 pub at_below : (rows : List Row) (p : ℕ) {row : Row} → slice_get rows p ≡ Some row → p < length rows
 at_below rows p e = ⊎_elim (λ h. h) (λ past. let none = slice_get_past rows p past in never (cc)) (cases_lt p (length rows))

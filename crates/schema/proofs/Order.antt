@@ -10,8 +10,8 @@ use Rattle.schema.specs.Rules.{Bounded, Determined, OffersElement, ◌⊑◌, Re
 use Rattle.schema.specs.Rules.◌⊑◌.{same, both}
 use Rattle.schema.specs.Rules.Names.{receives, sends, inside, following}
 use Rattle.schema.specs.Theorems.{RulesAreDecided, Part, OfRows, LargestWithin, LargestWithinExists, Confined, ConfinedAgreesWithBelow, BelowIsClosedAndDecided, BelowIsReflexive, BelowIsTransitive}
-use Rattle.schema.proofs.Findings.{each_below, told, told_true, told_false}
-use Rattle.schema.proofs.Narrowing.{Lawful, left_after, left_start, contains_every, keeps_rule, takes_all, struck}
+use Rattle.schema.proofs.Findings.{told, told_true, told_false}
+use Rattle.narrowing.proofs.Striking.{each_below, Lawful, left_after, left_start, contains_every, keeps_rule, takes_all, struck}
 use Rattle.schema.proofs.Offered.{offers_or_not, inhabited_or_not}
 use Rattle.schema.proofs.Kept.{Fails, not_both, keeps_or_fails}
 

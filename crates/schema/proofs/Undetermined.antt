@@ -1,4 +1,5 @@
 -- Two elements with one label and different insides: their union is not below itself.
+use Rattle.forms.proofs.Findings.{never}
 use Rattle.std.proofs.Common.{List, [], ◌∷◌, refl, arith}
 use Rattle.forms.specs.Rows.{NumbersBelow, Labelled}
 use Rattle.forms.specs.declared.Row.{Row}
@@ -8,7 +9,6 @@ use Rattle.schema.specs.Rules.{OffersElement, Below}
 use Rattle.forms.specs.Schema.Offers.{itself, left, right}
 use Rattle.forms.specs.Schema.Inhabited.{of_void, of_channel, of_element}
 use Rattle.schema.specs.Theorems.{ReflexiveNeedsDetermined}
-use Rattle.schema.proofs.Findings.{never}
 use Rattle.schema.proofs.Offered.{nth_all}
 use Rattle.schema.proofs.Inclusion.{channel_alone}
 

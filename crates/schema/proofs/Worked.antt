@@ -1,4 +1,5 @@
 -- The worked table: each case by the pairs that it needs.
+use Rattle.forms.proofs.Findings.{never}
 use Rattle.std.proofs.Common.{◌≡◌, ℕ, ◌/◌, ◌%◌, ◌^◌, ◌<◌, true, false, ◌&&◌, ◌||◌, eqb, ◌⊎◌, List, [], ◌∷◌, Some, sym, refl, ap, ◌∙◌, subst, inl, inr, ⊎_elim, arith}
 use native.Mathlib.Nat.{pow-le-pow_right, div-eq_of_lt}
 use Rattle.std.specs.List.{AllByRecursion, slice_get}
@@ -19,7 +20,6 @@ use Rattle.schema.specs.Rules.Fits.{fits_void, fits_reference, fits_element}
 use Rattle.schema.specs.Rules.Names.{receives, sends, inside, following}
 use Rattle.schema.specs.Rules.Leans.{on_itself, on_named}
 use Rattle.schema.specs.Worked.{table, tally, Counts, Shows, alone, WorkedCases}
-use Rattle.schema.proofs.Findings.{never}
 
 -- LABELS
 small_label : (k x l : ℕ) → l < 2 ^ k → belongs x l ≡ true → x < k

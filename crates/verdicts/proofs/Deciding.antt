@@ -1,4 +1,5 @@
 -- Narrowing a set of places gives the largest part of a relation all pairs of which keep the rules. Assumes nothing.
+use Rattle.forms.proofs.Findings.{never}
 use Rattle.std.proofs.Common.{◌≡◌, ℕ, ◌+◌, ◌*◌, ◌/◌, ◌%◌, ◌<◌, ◌≤◌, Bool, true, false, not, ◌&&◌, ◌||◌, eqb, ltb, ◌⊎◌, List, length, Decides, sym, refl, ap, ◌∙◌, subst, subst₂, ⊎_elim, Some, None, arith}
 use Rattle.std.proofs.lemmas.Nat.{mul-add-lt, div-mul-add, mod-mul-add, mul-le, div-add-mod'}
 use Rattle.std.proofs.lemmas.Bool.{both_ways, cases_Bool, and_parts, and_from, and_left, and_right, cases_lt, cond-true, cond-false, lt-ltb, le-ltb, ltb-true, eqb-true, eq-eqb}
@@ -9,7 +10,6 @@ use Rattle.forms.specs.declared.Row.{Row}
 use Rattle.narrowing.specs.Narrowing.{Within, Narrowed}
 use Rattle.schema.specs.Rules.{Bounded, Relation, Keeps, Closed}
 use Rattle.schema.specs.Theorems.{Part, LargestWithin}
-use Rattle.schema.proofs.Findings.{never}
 use Rattle.schema.proofs.Order.{keeps_more}
 use Rattle.verdicts.specs.Asking.{kept, kept_decides, asks}
 use Rattle.verdicts.specs.Pairs.{between, related, pair_of}

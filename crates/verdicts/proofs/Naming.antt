@@ -1,4 +1,5 @@
 -- The pairs that are noted for a pair are those that the rules name for it. Assumes nothing.
+use Rattle.forms.proofs.Findings.{never}
 use Rattle.std.proofs.Common.{◌≡◌, ℕ, ◌+◌, ◌*◌, ◌<◌, Bool, true, cond, ◌&&◌, ltb, ◌⊎◌, List, length, Some, None, Option, sym, refl, ap, ◌∙◌, subst₂, inl, inr, ⊎_elim}
 use Rattle.std.specs.List.{slice_get}
 use Rattle.std.proofs.lemmas.Bool.{cases_Bool, and_parts, and_from, lt-ltb, ltb-true, cond-true, cond-false}
@@ -10,7 +11,6 @@ use Rattle.relation.proofs.Labels.{meets_decides}
 use Rattle.schema.specs.Rules.{OffersChannel, OffersElement, ◌⊑◌, Covariant, Contravariant, Names}
 use Rattle.schema.specs.Rules.◌⊑◌.{same, both}
 use Rattle.schema.specs.Rules.Names.{receives, sends, inside, following}
-use Rattle.schema.proofs.Findings.{never}
 use Rattle.verdicts.specs.Facts.{ready_of}
 use Rattle.verdicts.specs.Naming.{Two, neither, names_of_payloads, names_by_channel, names_by_element, named_by, NamedAmong, NamedFor}
 use Rattle.verdicts.specs.Pairs.{place_of}

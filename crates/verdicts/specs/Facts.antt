@@ -1,9 +1,10 @@
 -- What a prepared table tells, which its ghost field holds as a mere fact: all of it can be decided, so it can be had. Assumes nothing.
 use Rattle.std.specs.Prelude.{◌≡◌, ℕ, ◌<◌, Bool, true, ◌&&◌, ◌⊎◌, List, length, Decides, ◌≢◌, nat_lt, slice_index}
-use Rattle.std.proofs.Common.{inl, inr, ⊎_elim, arith}
+use Rattle.std.proofs.Common.{inl, inr, ⊎_elim}
 use Rattle.std.proofs.Math.Logic.{∥∥₁_elim}
 use Rattle.std.specs.List.{slice_get}
-use Rattle.std.proofs.lemmas.Bool.{both_ways, cases_Bool, cases_lt, cases_eq, and_parts, and_from, ltb-true}
+use Rattle.std.proofs.lemmas.Bool.{both_ways, cases_Bool, cases_eq, and_parts, and_from, ltb-true}
+use Rattle.forms.proofs.Findings.{both_or_not, below_or_not}
 use Rattle.forms.specs.Buffers.{rows_of}
 use Rattle.forms.specs.Laws.{buffer_laws}
 use Rattle.forms.specs.Limits.{max_rows}
@@ -13,7 +14,7 @@ use Rattle.forms.specs.declared.Row.TheVariants.{Void, Nothing, Channel, Element
 use Rattle.relation.specs.Admission.{Admitted}
 use Rattle.relation.specs.Cells.{cell}
 use Rattle.schema.specs.Rules.{Bounded, Determined}
-use Rattle.schema.proofs.Findings.{each_below}
+use Rattle.narrowing.proofs.Striking.{each_below}
 use Rattle.schema.proofs.Offered.{nth_all, offers_or_not, inhabited_or_not}
 use Rattle.forms.specs.Schema.{IsChannel}
 use Rattle.verdicts.specs.Ready.{in_row, labels_in, IsVoid, IsElement, Sorted, Ready}
@@ -33,15 +34,6 @@ decides_known b dec t h = (λ e. known dec t (λ q. (h q).0 e), λ p. known (tru
 
 decided_by : {P : Type 0} (b : Bool) → Decides b P → P ⊎ (P → ⊥)
 decided_by b d = ⊎_elim (λ e. inl (d.0 e)) (λ e. inr (λ p. both_ways b e (d.1 p))) (cases_Bool b)
-
-below_or_not : (a b : ℕ) → (a < b) ⊎ (a < b → ⊥)
-below_or_not a b = ⊎_elim inl (λ le. inr (λ lt. omega arith)) (cases_lt a b)
-
-both_or_not : {A B : Type 0} → A ⊎ (A → ⊥) → B ⊎ (B → ⊥) → (A × B) ⊎ ((A × B) → ⊥)
-both_or_not (inl a) (inl b) = inl (a, b)
-both_or_not (inl a) (inr nb) = inr (λ h. nb h.1)
-both_or_not (inr na) (inl b) = inr (λ h. na h.0)
-both_or_not (inr na) (inr nb) = inr (λ h. na h.0)
 
 numbers_or_not : (n : ℕ) (row : Row) → NumbersBelow n row ⊎ (NumbersBelow n row → ⊥)
 numbers_or_not n Void = inl tt
