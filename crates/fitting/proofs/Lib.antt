@@ -1,5 +1,4 @@
 pub mod Refusing
-pub mod Picking
 pub mod References
 pub mod Bounds
 pub mod Fitted

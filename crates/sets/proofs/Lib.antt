@@ -2,6 +2,7 @@ pub mod Words
 pub mod Tallies
 pub mod Lowest
 pub mod Membership
+pub mod Picking
 pub mod Firsts
 pub mod Nexts
 pub mod Counts

@@ -1,7 +1,7 @@
 use Rattle.std.proofs.Common.{rules, ◌<◌, sym, subst}
 use Rattle.forms.specs.Buffers.{rows_of}
 use Rattle.fitting.proofs.Bounds.{OffersOne, one_below}
-use Rattle.fitting.proofs.Picking.{picked_all}
+use Rattle.sets.proofs.Picking.{picked_all}
 use Rattle.fitting.proofs.rows.channel_rows.Goals as goal
 use borrow.Author.Tests.{tests}
 

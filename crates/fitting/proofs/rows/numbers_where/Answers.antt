@@ -1,6 +1,6 @@
 use Rattle.std.proofs.Common.{ℕ, ◌+◌, true, false, length, sym, refl, ap, subst, ◌∙◌, arith}
 use lib.ListN.{length-replicate}
-use Rattle.fitting.proofs.Picking.{Picked, picked_none, picked_put, picked_past}
+use Rattle.sets.proofs.Picking.{Picked, picked_none, picked_put, picked_past}
 use Rattle.fitting.proofs.rows.numbers_where.Goals as goal
 use Rattle.fitting.proofs.rows.numbers_where.Goals.{then-passes, else-passes}
 

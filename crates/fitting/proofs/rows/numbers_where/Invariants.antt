@@ -1,5 +1,5 @@
 use Rattle.std.proofs.Common.{◌≡◌, true, false, length}
-use Rattle.fitting.proofs.Picking.{Picked}
+use Rattle.sets.proofs.Picking.{Picked}
 use Rattle.fitting.proofs.rows.numbers_where.Given as goal
 
 abbrev pub invariant-loop-k : goal.invariant-loop-k

@@ -2,7 +2,7 @@ use Rattle.std.proofs.Common.{rules, ◌<◌, sym, subst}
 use Rattle.forms.specs.Buffers.{rows_of}
 use Rattle.schema.specs.Rules.{OffersVoid}
 use Rattle.fitting.proofs.Bounds.{void_below}
-use Rattle.fitting.proofs.Picking.{picked_all}
+use Rattle.sets.proofs.Picking.{picked_all}
 use Rattle.fitting.proofs.rows.void_rows.Goals as goal
 use borrow.Author.Tests.{tests}
 
