@@ -2,6 +2,7 @@ pub mod Texts
 pub mod Scanning
 pub mod Reading
 pub mod Tables
+pub mod Unsound
 pub mod Levels
 pub mod Writing
 pub mod Judging

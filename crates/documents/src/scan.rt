@@ -29,6 +29,7 @@ pub enum Phase {
 }
 
 // Where a scan is: how many brackets are open, and where in a list it goes on.
+// As it is: no ghost member bounds the level, since a step may go one level too deep, and is told to be a fault only then.
 #[derive(Clone, Copy)]
 pub struct Scan {
     level: usize,

@@ -28,12 +28,7 @@ pub enum Shape {
 fn unsound(nodes: &[Node]) -> Option<usize>
     ensures { MatchOption result (Sound nodes.now) (λ k. Lowest (Unsound nodes.now) k) }
 {
-    for (k, node) in nodes.iter().enumerate() {
-        if !node.is_sound(k) {
-            return Some(k);
-        }
-    }
-    None
+    (0..nodes.len()).find(|k| !nodes[*k].is_sound(*k))
 }
 
 // The room that is left after n bytes.
@@ -61,6 +56,8 @@ impl<'a> Table<'a> {
         }
     }
 
+    // What the text of node k is made of.
+    // As it is: that there is a node k is asked three times; a struct of a table and a number would be made anew for each part of each node.
     fn look(&self, k: u16) -> Shape
         requires { k < length self.now.nodes.now }
         ensures { Shaped self.now.nodes.now k result }
@@ -82,6 +79,7 @@ impl<'a> Table<'a> {
     }
 
     // The room left after the text of node k, or none if it is longer. It stops once the room is spent, however long the text is.
+    // As it is: a text that is too long leaves the buffer as it was, so its length is known before a byte of it is written.
     fn measure(&self, k: u16, room: usize) -> Option<usize>
         requires { k < length self.now.nodes.now }
         ensures { (x : Document) → StandsFor self.now.nodes.now k x → result ≡ rest room (length (spelled_document x)) }

@@ -7,7 +7,7 @@ ghost use Rattle.forms.specs.Rows.{fits};
 use super::{MAX_ROWS, Row};
 
 // The first `count` rows of `table`.
-// As it is: no function here allocates, so the rows have fixed memory; the kit's ArrayVec would be one more crate to trust.
+// As it is: the rows have fixed memory, by the project's rule. Its ghost members say what they are; an ArrayVec of the kit would need a struct around it to say the same.
 #[derive(Drop)]
 pub struct RowBuffer {
     table: [Row; MAX_ROWS],

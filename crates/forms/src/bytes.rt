@@ -25,7 +25,7 @@ pub fn digit(byte: u8) -> Option<u8>
 }
 
 // How many digits a number has.
-// As it is: what is written must fit before its first byte is put, so its length is asked for alone; one function of both would ask a flag.
+// As it is: what is written must fit before its first byte is put, so its length is asked for alone, and the writing of a row and of a document ask for it too.
 #[tactic(auto, using(crate::proofs::Decimals::one_digit, crate::proofs::Decimals::two_digits, crate::proofs::Decimals::three_digits))]
 pub fn digits(number: u8) -> usize
     ensures value { result ≡ length (decimal number) }

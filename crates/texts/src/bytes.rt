@@ -20,20 +20,20 @@ fn hex_digit(value: u8) -> u8
     }
 }
 
+// Writes the hexadecimal digits of a label set.
 // As it is: the buffer and the place go in and out as in `forms::bytes`; a writer would add a clause to each contract here.
 fn put_labels(out: &mut [u8], place: usize, labels: u64) -> usize
     ensures { Wrote out.old out.new place (hexadecimal label_digits labels) result }
 {
     let mut next = place;
-    for written in 0..LABEL_DIGITS {
-        let behind = LABEL_DIGITS - 1 - written;
+    for behind in (0..LABEL_DIGITS).rev() {
         let digit = (labels >> (4 * behind)) % 16;
         next = put(out, next, hex_digit(digit as u8));
     }
     next
 }
 
-// As it is: an impl of From would stand where Capability is declared, and these letters are those of row text alone.
+// As it is: an impl of From would stand in forms, where Capability is declared, and these letters are those of row text alone; a type of this crate around it would be taken apart again at once.
 fn capability_letter(capability: Capability) -> u8
     ensures { result ≡ letter_of_capability capability }
 {

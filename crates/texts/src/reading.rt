@@ -27,6 +27,7 @@ impl RowText {
             if line == MAX_ROWS {
                 return Err(TextFault::TooManyLines);
             }
+            // As it is: tried with `map_err` and `?`, and the proof did not close: it would have to find the field again in what the closure gave.
             match lines::line(rest) {
                 Ok((row, next)) => {
                     table.push(row);

@@ -13,7 +13,7 @@ use forms::bytes::digits;
 use forms::{FormSource, MAX_ROWS, Row};
 
 // The length of a row's line: its letter, three commas and byte 10, and its fields.
-// As it is: a text that is too long leaves the buffer as it was, so its length is known before a byte of it is written.
+// As it is: a text that is too long leaves the buffer as it was, so its length is known before a byte of it is written; one `match` for both would write into a buffer that may not be there.
 fn line_length(row: Row) -> usize
     ensures value { result ≡ length (spelled_row row) }
     ensures few { result ≤ 27 }
