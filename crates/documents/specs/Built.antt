@@ -19,40 +19,37 @@ abbrev pub Closing : List ℕ → Type 0
 Closing [] = Unit {0}
 Closing (b ∷ s) = b ≡ 93
 
--- reading stands at a place of a text that is not too long, and has used fewer nodes than bytes
-pub record Ready (text : List ℕ) (place used : ℕ) : Type 0 where
-  pub within : place ≤ length text
-  pub short : length text ≤ max_document
-  pub few : used ≤ place + 1
+-- the text is not too long for the nodes that are used
+pub record Ready (text : List ℕ) (used : ℕ) : Type 0 where
+  pub few : length text + used ≤ max_document + 1
 
 -- it went on, by at least `more` bytes above the nodes that it used
-pub record Onward (text : List ℕ) (more place used : ℕ) (r : Reached) : Type 0 where
-  pub on : place ≤ r.place
-  pub within : r.place ≤ length text
-  pub few : r.used + place + more ≤ used + r.place
+pub record Onward (text : List ℕ) (more used : ℕ) (r : Reached) : Type 0 where
+  pub within : length r.rest.now ≤ length text
+  pub few : r.used + length r.rest.now + more ≤ used + length text
 
--- the nodes of d stand in the table from `used` on, and reading stands at `end`
-pub record Built (d : Document) (before after : List Node) (used end : ℕ) (r : Reached) : Type 0 where
-  pub place : r.place ≡ end
+-- the nodes of d stand in the table from `used` on, and this is left of the text
+pub record Built (d : Document) (before after : List Node) (used : ℕ) (tail : List ℕ) (r : Reached) : Type 0 where
+  pub rest : r.rest.now ≡ tail
   pub count : r.used ≡ used + size d
   pub top : r.root ≡ root used d
   pub nodes : after ≡ spliced before used (nodes_from used d)
 
--- a number stands at a place: this is it, and where it ends
-abbrev pub ReadsNumber : List ℕ → ℕ → ℕ × ℕ → Type 0
-ReadsNumber text place r = (n : ℕ) (tail : List ℕ) → n < max_rows → drop place text ≡ decimal n ++ tail → NoDigit tail → (r.0 ≡ n) × (r.1 ≡ place + length (decimal n))
+-- where the text begins with a number: this is it, and what is behind it
+abbrev pub ReadsNumber : List ℕ → ℕ → List ℕ → Type 0
+ReadsNumber text number rest = (n : ℕ) (tail : List ℕ) → n < max_rows → text ≡ decimal n ++ tail → NoDigit tail → (number ≡ n) × (rest ≡ tail)
 
--- where the text of a list stands at a place, its document is built
-abbrev pub BuildsList : List ℕ → ℕ → List Node → List Node → ℕ → Reached → Type 0
-BuildsList text place before after used r =
-    (d : Document) (tail : List ℕ) → Small d → comma_before d ≡ 44 ∷ [] → drop place text ≡ spelled_document d ++ tail → Closing tail → 1 ≤ used → used + size d ≤ length before →
-    Built d before after used (place + length (spelled_document d)) r
+-- where the text begins with that of a list, its document is built
+abbrev pub BuildsList : List ℕ → List Node → List Node → ℕ → Reached → Type 0
+BuildsList text before after used r =
+    (d : Document) (tail : List ℕ) → Small d → comma_before d ≡ 44 ∷ [] → text ≡ spelled_document d ++ tail → Closing tail → 1 ≤ used → used + size d ≤ length before →
+    Built d before after used tail r
 
--- where the text of an element stands at a place, its label is read and the document in its brackets is built
-abbrev pub BuildsItem : List ℕ → ℕ → List Node → List Node → ℕ → ℕ × Reached → Type 0
-BuildsItem text place before after used r =
-    (x : ℕ) (a : Document) (tail : List ℕ) → x < label_count → Small a → drop place text ≡ decimal x ++ (91 ∷ (spelled_document a ++ (93 ∷ tail))) → 1 ≤ used → used + size a ≤ length before →
-    (r.0 ≡ x) × Built a before after used (place + length (decimal x) + length (spelled_document a) + 2) r.1
+-- where the text begins with that of an element, its label is read and the document in its brackets is built
+abbrev pub BuildsItem : List ℕ → List Node → List Node → ℕ → ℕ → Reached → Type 0
+BuildsItem text before after used label r =
+    (x : ℕ) (a : Document) (tail : List ℕ) → x < label_count → Small a → text ≡ decimal x ++ (91 ∷ (spelled_document a ++ (93 ∷ tail))) → 1 ≤ used → used + size a ≤ length before →
+    (label ≡ x) × Built a before after used tail r
 
 -- the text of a document stands as its nodes at the front of the table, and the rest is as it was
 abbrev pub BuildsText : List ℕ → List Node → List Node → Type 0

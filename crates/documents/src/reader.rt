@@ -1,5 +1,5 @@
 // Reading document text into a table of nodes.
-ghost use Rattle.std.specs.Prelude.{◌≡◌, ◌+◌, ◌<◌, ◌≤◌, min, length, MatchOption, nat_lt, slice_index, slice_set};
+ghost use Rattle.std.specs.Prelude.{◌≡◌, ◌∷◌, ℕ, List, MatchOption, ◌+◌, ◌<◌, ◌≤◌, min, length, drop, nat_lt, slice_set};
 ghost use Rattle.documents.specs.declared.nodes.Node.TheVariants.{Element};
 ghost use Rattle.documents.specs.Limits.{max_nodes, max_document};
 ghost use Rattle.documents.specs.Built.{Ready, Onward, ReadsNumber, BuildsList, BuildsItem, BuildsText};
@@ -12,51 +12,52 @@ use super::nodes::{MAX_DOCUMENT, MAX_NODES, Node};
 use super::scan::judge;
 use forms::bytes::digit;
 
-// Where reading goes on, how many nodes are used, and the number of the last one.
+// What reading has come to: the rest of the text, how many nodes are used, and the number of the last one.
 #[derive(Clone, Copy)]
-pub struct Reached {
-    place: usize,
+pub struct Reached<'a> {
+    rest: &'a [u8],
     used: usize,
     root: u16,
 }
 
-// The byte at a place, or 0 at the end.
-// As it is: 0 is none of the bytes that reading asks for, and with `get` each question would be about an `Option` of a reference.
-fn byte_at(text: &[u8], place: usize) -> u8
-    ensures { result ≡ slice_index text.now place }
+// The text behind its first byte.
+fn behind(text: &[u8]) -> &[u8]
+    ensures { result.now ≡ drop 1 text.now }
 {
-    text.get(place).copied().unwrap_or(0)
+    match text {
+        [_, rest @ ..] => rest,
+        [] => text,
+    }
 }
 
-// The place behind a byte, but not behind the end.
-fn skip(text: &[u8], place: usize) -> usize
-    requires { place ≤ length text.now }
-    ensures on { place < length text.now → result ≡ place + 1 }
-    ensures within { (place ≤ result) × (result ≤ length text.now) }
+// The text behind this byte, if the text begins with it.
+fn after(text: &[u8], byte: u8) -> Option<&[u8]>
+    ensures { MatchOption result ((rest : List ℕ) → text.now ≡ byte ∷ rest → ⊥) (λ rest. text.now ≡ byte ∷ rest.now) }
 {
-    place.saturating_add(1).min(text.len())
+    match text {
+        [first, rest @ ..] if *first == byte => Some(rest),
+        _ => None,
+    }
 }
 
-// The digit at a place.
-fn digit_at(text: &[u8], place: usize) -> Option<u8>
-    ensures { MatchOption result (place < length text.now → 48 ≤ slice_index text.now place → slice_index text.now place ≤ 57 → ⊥) (λ d. (place < length text.now) × (slice_index text.now place ≡ 48 + d) × (d < 10)) }
-{
-    digit(*text.get(place)?)
-}
-
-// The number at a place, of one digit or two, and the place behind it.
+// The number that a text begins with, of one digit or two, and the text behind it.
 // As it is: the text has been judged, so a number stands there, and `None` would ask for an answer that never comes.
-fn number(text: &[u8], place: usize) -> (u8, usize)
-    requires { place ≤ length text.now }
-    ensures within { (place ≤ result.1) × (result.1 ≤ length text.now) }
-    ensures reads { ReadsNumber text.now place result }
+fn number(text: &[u8]) -> (u8, &[u8])
+    ensures within { length result.1.now ≤ length text.now }
+    ensures reads { ReadsNumber text.now result.0 result.1.now }
 {
-    let Some(first) = digit_at(text, place) else {
-        return (0, place);
+    let [first, rest @ ..] = text else {
+        return (0, text);
     };
-    match digit_at(text, place + 1) {
-        Some(second) => (first * 10 + second, place + 2),
-        None => (first, place + 1),
+    let Some(tens) = digit(*first) else {
+        return (0, text);
+    };
+    let [second, more @ ..] = rest else {
+        return (tens, rest);
+    };
+    match digit(*second) {
+        Some(ones) => (tens * 10 + ones, more),
+        None => (tens, rest),
     }
 }
 
@@ -71,100 +72,101 @@ fn put(nodes: &mut [Node], used: usize, node: Node)
 }
 
 // The node of an element, behind those of its inside and of what follows it.
-fn close(nodes: &mut [Node], label: u8, inside: u16, rest: Reached) -> Reached
-    requires { rest.used ≤ max_document }
-    ensures wrote { nodes.new ≡ slice_set nodes.old rest.used (Element label inside rest.root) }
-    ensures reached { (result.place ≡ rest.place) × (result.used ≡ rest.used + 1) × (result.root ≡ rest.used) }
+fn close<'a>(nodes: &mut [Node], label: u8, inside: u16, last: Reached<'a>) -> Reached<'a>
+    requires { last.used ≤ max_document }
+    ensures wrote { nodes.new ≡ slice_set nodes.old last.entry.used (Element label inside last.entry.root) }
+    ensures reached { (result.rest.now ≡ last.entry.rest.now) × (result.used ≡ last.entry.used + 1) × (result.root ≡ last.entry.used) }
 {
     put(
         nodes,
-        rest.used,
+        last.used,
         Node::Element {
             label,
             inside,
-            following: rest.root,
+            following: last.root,
         },
     );
     Reached {
-        place: rest.place,
-        used: rest.used + 1,
-        root: rest.used as u16,
+        rest: last.rest,
+        used: last.used + 1,
+        root: last.used as u16,
     }
 }
 
 // A list: a reference, or an element, or an element, a comma and a list.
-// As it is: a struct of text, place, nodes and count would hold a `&mut`, and each contract would say too that it stays the same one.
+// As it is: a struct of the text, the nodes and their count would hold a `&mut`, and each contract would say too that it stays the same one.
 #[cycle(item_list)]
-fn list(text: &[u8], place: usize, nodes: &mut [Node], used: usize) -> Reached
-    requires { Ready text.now place used }
-    ensures onward { Onward text.now 0 place used result }
-    ensures builds { BuildsList text.now place nodes.old nodes.new used result }
+fn list<'a>(text: &'a [u8], nodes: &mut [Node], used: usize) -> Reached<'a>
+    requires { Ready text.now used }
+    ensures onward { Onward text.now 0 used result }
+    ensures builds { BuildsList text.now nodes.old nodes.new used result }
 {
-    if place >= text.len() {
+    if text.is_empty() {
         return Reached {
-            place,
+            rest: text,
             used,
             root: 0,
         };
     }
-    if byte_at(text, place) == b'@' {
-        let (row, end) = number(text, place + 1);
+    if let Some(rest) = after(text, b'@') {
+        let (row, end) = number(rest);
         put(nodes, used, Node::Reference(row));
         return Reached {
-            place: end,
+            rest: end,
             used: used + 1,
             root: used as u16,
         };
     }
-    let (label, inside) = item(text, place, nodes, used);
-    if byte_at(text, inside.place) == b',' {
-        let rest = list(text, inside.place + 1, nodes, inside.used);
-        close(nodes, label, inside.root, rest)
-    } else {
-        close(
+    let (label, inside) = item(text, nodes, used);
+    match after(inside.rest, b',') {
+        Some(more) => {
+            let last = list(more, nodes, inside.used);
+            close(nodes, label, inside.root, last)
+        }
+        None => close(
             nodes,
             label,
             inside.root,
             Reached {
-                place: inside.place,
+                rest: inside.rest,
                 used: inside.used,
                 root: 0,
             },
-        )
+        ),
     }
 }
 
 // An element without what follows it: a label, and brackets that hold a list or nothing.
 #[cycle(item_list)]
-fn item(text: &[u8], place: usize, nodes: &mut [Node], used: usize) -> (u8, Reached)
-    requires ready { Ready text.now place used }
-    requires some { place < length text.now }
-    ensures onward { Onward text.now 1 place used result.1 }
-    ensures builds { BuildsItem text.now place nodes.old nodes.new used result }
+fn item<'a>(text: &'a [u8], nodes: &mut [Node], used: usize) -> (u8, Reached<'a>)
+    requires ready { Ready text.now used }
+    requires some { 0 < length text.now }
+    ensures onward { Onward text.now 1 used result.1 }
+    ensures builds { BuildsItem text.now nodes.old nodes.new used result.0 result.1 }
 {
-    let (label, end) = number(text, place);
-    let start = skip(text, end);
-    if byte_at(text, start) == b']' {
-        let shut = skip(text, start);
-        return (
+    let (label, end) = number(text);
+    let start = behind(end);
+    match after(start, b']') {
+        Some(shut) => (
             label,
             Reached {
-                place: shut,
+                rest: shut,
                 used,
                 root: 0,
             },
-        );
+        ),
+        None => {
+            let inside = list(start, nodes, used);
+            (
+                label,
+                Reached {
+                    rest: behind(inside.rest),
+                    used: inside.used,
+                    root: inside.root,
+                },
+            )
+        }
     }
-    let inside = list(text, start, nodes, used);
-    let shut = skip(text, inside.place);
-    (
-        label,
-        Reached {
-            place: shut,
-            used: inside.used,
-            root: inside.root,
-        },
-    )
 }
 
 // The nodes of a text that is known to be right and to fit.
@@ -174,7 +176,7 @@ fn build(text: &[u8], nodes: &mut [Node])
 {
     put(nodes, 0, Node::Void);
     if !text.is_empty() {
-        let _ = list(text, 0, nodes, 1);
+        let _ = list(text, nodes, 1);
     }
 }
 
