@@ -145,7 +145,7 @@ impl Scan {
 fn nodes_of(byte: u8) -> usize
     ensures { result ≡ (if marks byte then 1 else 0) }
 {
-    if byte == b'[' || byte == b'@' { 1 } else { 0 }
+    usize::from(byte == b'[' || byte == b'@')
 }
 
 // Goes through a text once, and answers how many nodes its document takes. The first node of every table is void.

@@ -14,7 +14,6 @@ ghost use Rattle.documents.specs.Writing.{Unsound, WritingDocumentsIsOne};
 use super::faults::WriteFault;
 use super::nodes::{MAX_DOCUMENT, MAX_NODES, Node};
 use forms::bytes::{digits, put, put_number};
-use forms::{LABELS, MAX_ROWS};
 
 // A node by its text: none, an address, or an element with what follows it, if its text is not empty.
 #[derive(Clone, Copy)]

@@ -60,14 +60,14 @@ impl<A: FormSource, B: FormSource> FormSource for Joined<A, B> {
     }
 
     fn row(&self, number: u8) -> Option<Row> {
-        let own = self.first.count();
-        let other = self.second.count();
-        if own + other > MAX_ROWS {
+        if number as usize >= self.count() {
             return None;
         }
+        let own = self.first.count();
         if (number as usize) < own {
             self.first.row(number).map(|row| shifted(0, own, row))
         } else {
+            let other = self.second.count();
             self.second
                 .row(number - own as u8)
                 .map(|row| shifted(own as u8, other, row))

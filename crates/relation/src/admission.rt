@@ -41,7 +41,6 @@ pub fn element_labels(row: Row) -> u64
     }
 }
 
-// As it is: rows and their analysis stay apart, since a struct of both would hold what the analysis tells only as a truncated fact, to be decided again at each use.
 // Whether row p offers row o, and o is inhabited.
 fn counts(analysis: &Analysis, p: usize, o: usize) -> bool
     requires first { p < max_rows }
@@ -52,6 +51,7 @@ fn counts(analysis: &Analysis, p: usize, o: usize) -> bool
 }
 
 // The labels of row o, if it is an inhabited element row that row p offers.
+// As it is: a struct of the table and its analysis would hold what the analysis tells as a truncated fact, which would be decided again at each of three uses.
 fn given_labels(table: &RowBuffer, analysis: &Analysis, p: usize, o: usize) -> u64
     requires first { p < length (rows_of table.now) }
     requires second { o < length (rows_of table.now) }
