@@ -13,7 +13,7 @@ ghost use Rattle.verdicts.specs.Within.{rows_within, relation_of};
 use super::super::rowsets::RowSet;
 use super::Prepared;
 use super::naming::{named_by_channel, named_by_element};
-use forms::{Capability, FormSource, MAX_ROWS, Row};
+use forms::{Capability, FormSource, Row};
 use relation::offering::has;
 use sets;
 
@@ -91,12 +91,21 @@ impl<'a> Within<'a> {
         RowSet::of(&self.prepared.channels, q).any(|d| self.takes(c, d))
     }
 
+    // The same, of row c, if it is a channel row.
+    fn takes_channel(&self, c: u8, q: u8) -> bool
+        ensures { Decides result (ChannelTaken (rows_within self.now) (relation_of self.now) c q) }
+    {
+        match self.prepared.table.row(c) {
+            Some(Row::Channel(capability, payload)) => self.taken((capability, payload), c, q),
+            _ => true,
+        }
+    }
+
     // The same, of all channel rows that row p offers.
     fn rows_taken(&self, p: u8, q: u8) -> bool
         ensures { Decides result ((c : ℕ) → in_row self.now.prepared.now.channels p c ≡ true → ChannelTaken (rows_within self.now) (relation_of self.now) c q) }
     {
-        let (prepared, pairs) = (self.prepared, self.pairs);
-        RowSet::of(&prepared.channels, p).all(|c| prepared.takes_channel(pairs, c, q))
+        RowSet::of(&self.prepared.channels, p).all(|c| self.takes_channel(c, q))
     }
 
     // Whether a row agrees with all inhabited element rows that row q offers.
@@ -157,10 +166,7 @@ impl Prepared {
             prepared: self,
             pairs,
         };
-        match self.table.row(c) {
-            Some(Row::Channel(capability, payload)) => within.taken((capability, payload), c, q),
-            _ => true,
-        }
+        within.takes_channel(c, q)
     }
 
     // Whether row q offers a void row if row p does.
