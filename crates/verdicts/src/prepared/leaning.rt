@@ -5,7 +5,7 @@ ghost use Rattle.sets.specs.Sets.{member};
 ghost use Rattle.forms.specs.Limits.{max_rows};
 ghost use Rattle.schema.specs.Rules.{Below, Included, Leans};
 ghost use Rattle.schema.specs.Theorems.{Confined};
-ghost use Rattle.verdicts.specs.Naming.{NamedAt, NamedAmong, NamedWith, NamedFor, Noted};
+ghost use Rattle.verdicts.specs.Naming.{NamedAt, NamedAmong, NamedWith};
 ghost use Rattle.verdicts.specs.Pairs.{place_of, Leaned};
 ghost use Rattle.verdicts.specs.Ready.{in_row};
 ghost use Rattle.verdicts.specs.Tables.{rows_in, count_in, related_in};
