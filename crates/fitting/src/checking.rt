@@ -10,7 +10,7 @@ ghost use Rattle.verdicts.specs.Tables.{rows_in};
 use super::faults::FitFault;
 use super::order::Order;
 use documents::nodes::{MAX_NODES, Node};
-use forms::{LABELS, Row};
+use forms::Row;
 use relation::offering::ROW_WORDS;
 use verdicts::prepared::Prepared;
 
@@ -32,16 +32,11 @@ fn sound(prepared: &Prepared, k: usize, node: Node) -> bool
 }
 
 // The lowest node that is not sound.
-// As it is: one function for this and for the writer's nodes would be public and take the test, and so ask that it may be called; no public function here asks anything.
+// As it is: the writer has such a function too, of nodes whose references need no row that is there. One for both would be public and take the test, and so ask that it may be called; no public function here asks anything.
 fn unsound(prepared: &Prepared, nodes: &[Node]) -> Option<usize>
     ensures { MatchOption result (SoundOver (rows_in prepared.now) nodes.now) (λ k. Lowest (UnsoundOver (rows_in prepared.now) nodes.now) k) }
 {
-    for (k, node) in nodes.iter().enumerate() {
-        if !sound(prepared, k, *node) {
-            return Some(k);
-        }
-    }
-    None
+    (0..nodes.len()).find(|k| !sound(prepared, *k, nodes[*k]))
 }
 
 // Whether an order can be fitted, or why not: the earlier case first.
