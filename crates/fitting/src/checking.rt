@@ -10,23 +10,15 @@ ghost use Rattle.verdicts.specs.Tables.{rows_in};
 use super::faults::FitFault;
 use super::order::Order;
 use documents::nodes::{MAX_NODES, Node};
-use forms::Row;
 use relation::offering::ROW_WORDS;
 use verdicts::prepared::Prepared;
-
-// Whether the row with that number is a channel row.
-pub(crate) fn is_channel(prepared: &Prepared, number: u8) -> bool
-    ensures { Decides result (IsChannel (rows_in prepared.now) number) }
-{
-    matches!(prepared.row(number), Some(Row::Channel(_, _)))
-}
 
 // Whether the node with number k points at lower nodes, has a label that there is, and refers to a channel row.
 fn sound(prepared: &Prepared, k: usize, node: Node) -> bool
     ensures { Decides result (SoundWith (IsChannel (rows_in prepared.now)) k node) }
 {
     match node {
-        Node::Reference(row) => is_channel(prepared, row),
+        Node::Reference(row) => prepared.is_channel(row),
         _ => node.is_sound(k),
     }
 }
