@@ -1,10 +1,11 @@
 -- Noting what is pending, step by step. Assumes nothing.
-use Rattle.std.proofs.Common.{◌≡◌, ℕ, ◌+◌, ◌*◌, ◌<◌, ◌≤◌, Bool, true, false, ◌⊎◌, List, ap, ◌∙◌, subst, inl, inr, ⊎_elim, arith}
+use Rattle.std.proofs.Common.{get_or, Option, Some, None, ◌≡◌, ℕ, ◌+◌, ◌*◌, ◌<◌, ◌≤◌, Bool, true, false, ◌⊎◌, List, ap, ◌∙◌, subst, inl, inr, ⊎_elim, arith}
 use Rattle.std.proofs.lemmas.Bool.{both_ways}
 use Rattle.forms.specs.Limits.{max_rows}
 use Rattle.forms.specs.declared.Row.{Row}
 use Rattle.sets.specs.Sets.{member}
 use Rattle.verdicts.specs.Naming.{NamedAmong, NamedFor, Pended}
+use Rattle.verdicts.specs.Pairs.{place_of}
 use Rattle.verdicts.specs.Ready.{in_row}
 use Rattle.verdicts.specs.Tables.{rows_in}
 use Rattle.verdicts.specs.Walking.{Notes, MetBy}
@@ -51,6 +52,10 @@ module _ (f : ℕ → Bool) (N : ℕ → ℕ → Type 0) where
     where
       up : (e : ℕ) → e < from → from ≤ o → e < o + 1
       up e a b = omega arith
+
+-- the places of the first i of some pairs
+abbrev pub NotedOf : ℕ → List (Option (ℕ × ℕ)) → ℕ → ℕ → Type 0
+NotedOf n pairs i k = (j : ℕ) × (j < i) × (place_of n (get_or pairs j None) ≡ Some k)
 
 module _ (rows : List Row) (met : Met) where
   pub none_met : (walk : Walk) → ((k : ℕ) → member met.met k ≡ false) → MetBy rows met walk

@@ -53,16 +53,17 @@ impl<'a> Within<'a> {
     fn takes(&self, c: (Capability, u8), d: u8) -> bool
         ensures { result ≡ takes (relation_of self.now) c.0 c.1 (slice_get (rows_within self.now) d) }
     {
-        let (one, two) = named_by_channel(c, self.prepared.table.row(d));
-        (one.is_some() || two.is_some()) && self.relates_named(one) && self.relates_named(two)
+        let named = named_by_channel(c, self.prepared.table.row(d));
+        named.iter().any(|pair| pair.is_some())
+            && named.iter().all(|pair| self.relates_named(*pair))
     }
 
     // Whether the set has the pairs that the rules name for an element row and row f.
     fn agrees_at(&self, labels: u64, parts: (u8, u8), f: u8) -> bool
         ensures { result ≡ agrees_at (relation_of self.now) labels parts.0 parts.1 (slice_get (rows_within self.now) f) }
     {
-        let (one, two) = named_by_element(labels, parts, self.prepared.table.row(f));
-        self.relates_named(one) && self.relates_named(two)
+        let named = named_by_element(labels, parts, self.prepared.table.row(f));
+        named.iter().all(|pair| self.relates_named(*pair))
     }
 
     // The same of two rows, of which the first is given.

@@ -92,9 +92,9 @@ impl Prepared {
     fn name_rows(&self, walk: &mut Walk, c: Option<Row>, d: Option<Row>)
         ensures { Notes (NamedAt (count_in self.now) c d) walk.old walk.new }
     {
-        let (one, two) = named_by(c, d);
-        self.note(walk, one);
-        self.note(walk, two);
+        for pair in named_by(c, d) {
+            self.note(walk, pair);
+        }
     }
 
     // Notes the pairs that the rules name for a row and those in the set of row q.
