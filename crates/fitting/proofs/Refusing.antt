@@ -1,5 +1,5 @@
 -- A table of nodes can be fitted, or has exactly one fault. Assumes nothing.
-use Rattle.std.proofs.Common.{◌≡◌, ℕ, ◌*◌, ◌⊎◌, List, length, refl, ap, inl, inr, ⊎_elim, arith}
+use Rattle.std.proofs.Common.{◌≡◌, ℕ, ◌*◌, ◌<◌, ◌≤◌, ◌⊎◌, List, length, get_or, Option, Some, None, MatchOption, refl, ap, inl, inr, ⊎_elim, arith}
 use Rattle.std.proofs.lemmas.Bool.{cases_lt, cases_eq, cases_Bool, both_ways}
 use Rattle.std.specs.List.{slice_get}
 use Rattle.forms.specs.Limits.{label_count}
@@ -12,6 +12,7 @@ use Rattle.documents.specs.Limits.{max_nodes}
 use Rattle.documents.specs.Nodes.{SoundWith, SoundOver}
 use Rattle.documents.specs.declared.nodes.Node.{Node}
 use Rattle.documents.specs.declared.nodes.Node.TheVariants.{Void, Reference, Element}
+use Rattle.documents.proofs.Shapes.{first_unsound, one_more_sound, all_sound}
 use Rattle.verdicts.specs.Kinds.{channel_row}
 use Rattle.verdicts.specs.Sorts.{channel_tells}
 use Rattle.fitting.specs.Faults.{fit_refusal}
@@ -27,6 +28,19 @@ module _ (rows : List Row) where
   sound_or_not k Void = inl tt
   sound_or_not k (Reference c) = channel_or_not c
   sound_or_not k (Element x i f) = ⊎_elim (λ (a, (b, c)). inl (a, b, c)) (λ none. inr (λ (a, b, c). none (a, (b, c)))) (both_or_not (below_or_not x label_count) (both_or_not (below_or_not i k) (below_or_not f k)))
+
+  -- all nodes are sound, or one is the lowest that is not
+  module _ (nodes : List Node) where
+    abbrev SoundHere : ℕ → Type 0
+    SoundHere k = SoundWith (IsChannel rows) k (get_or nodes k Void)
+
+    pub sound_or_lowest : (r : Option ℕ)
+        → MatchOption r ((k : ℕ) → 0 ≤ k → k < length nodes → SoundHere k) (λ i. (0 ≤ i) × (i < length nodes) × (SoundHere i → ⊥) × ((k : ℕ) → 0 ≤ k → k < i → SoundHere k))
+        → MatchOption r (SoundOver rows nodes) (λ k. Lowest (UnsoundOver rows nodes) k)
+    sound_or_lowest None all = record {
+      each = all_sound (SoundWith (IsChannel rows)) nodes (length nodes) (omega arith) (λ j h. one_more_sound (SoundWith (IsChannel rows)) nodes j h (all j (omega arith) h));
+    }
+    sound_or_lowest (Some i) (_, lt, none, before) = first_unsound (SoundWith (IsChannel rows)) nodes i lt (λ j h. one_more_sound (SoundWith (IsChannel rows)) nodes j (omega arith) (before j (omega arith) h)) none
 
   module _ (nodes : List Node) (root marks : ℕ) where
     sound_everywhere : SoundOver rows nodes → {k : ℕ} → Lowest (UnsoundOver rows nodes) k → ⊥

@@ -1,3 +1,4 @@
 pub mod Faults
 pub mod Fittable
 pub mod Marks
+pub mod Fitting

@@ -10,38 +10,25 @@ ghost use Rattle.verdicts.specs.Tables.{rows_in};
 use super::faults::FitFault;
 use super::order::Order;
 use documents::nodes::{MAX_NODES, Node};
-use forms::{LABELS, Row};
 use relation::offering::ROW_WORDS;
 use verdicts::prepared::Prepared;
-
-// Whether the row with that number is a channel row.
-pub(crate) fn is_channel(prepared: &Prepared, number: u8) -> bool
-    ensures { Decides result (IsChannel (rows_in prepared.now) number) }
-{
-    matches!(prepared.row(number), Some(Row::Channel(_, _)))
-}
 
 // Whether the node with number k points at lower nodes, has a label that there is, and refers to a channel row.
 fn sound(prepared: &Prepared, k: usize, node: Node) -> bool
     ensures { Decides result (SoundWith (IsChannel (rows_in prepared.now)) k node) }
 {
     match node {
-        Node::Reference(row) => is_channel(prepared, row),
+        Node::Reference(row) => prepared.is_channel(row),
         _ => node.is_sound(k),
     }
 }
 
 // The lowest node that is not sound.
-// As it is: one function for this and for the writer's nodes would be public and take the test, and so ask that it may be called; no public function here asks anything.
+// As it is: the writer has such a function too, of nodes whose references need no row that is there. One for both would be public and take the test, and so ask that it may be called; no public function here asks anything.
 fn unsound(prepared: &Prepared, nodes: &[Node]) -> Option<usize>
     ensures { MatchOption result (SoundOver (rows_in prepared.now) nodes.now) (λ k. Lowest (UnsoundOver (rows_in prepared.now) nodes.now) k) }
 {
-    for (k, node) in nodes.iter().enumerate() {
-        if !sound(prepared, k, *node) {
-            return Some(k);
-        }
-    }
-    None
+    (0..nodes.len()).find(|k| !sound(prepared, *k, nodes[*k]))
 }
 
 // Whether an order can be fitted, or why not: the earlier case first.

@@ -5,48 +5,20 @@ ghost use Rattle.forms.specs.Limits.{max_rows};
 ghost use Rattle.documents.specs.Limits.{max_nodes};
 ghost use Rattle.documents.specs.Nodes.{SoundOver};
 ghost use Rattle.relation.specs.Cells.{cell};
-ghost use Rattle.schema.specs.Rules.{OffersVoid};
 ghost use Rattle.verdicts.specs.Ready.{in_row};
 ghost use Rattle.fitting.specs.Faults.{fit_refusal};
 ghost use Rattle.fitting.specs.Fittable.{row_words, Fittable, Unfit};
+ghost use Rattle.fitting.specs.Fitting.{rows_fitted, Paired};
 ghost use Rattle.fitting.specs.Marks.{Among, FitsNode, Marked, TellsRoot};
 ghost use Rattle.verdicts.specs.Tables.{rows_in, count_in};
 
 use super::checking::check;
 use super::faults::FitFault;
 use super::order::Order;
-use super::rows::{channel_rows, element_rows, holding_rows, paired_rows, void_rows};
+use super::rows::Fitting;
 use documents::nodes::Node;
 use relation::offering::{ROW_WORDS, has};
 use verdicts::prepared::Prepared;
-
-// The rows that a node fits, where the marks tell it of lower nodes, and the rows that offer a void row are given.
-fn node_rows(
-    prepared: &Prepared,
-    pairs: &[u64],
-    voids: [u64; ROW_WORDS],
-    marks: &[u64],
-    node: Node,
-) -> [u64; ROW_WORDS]
-    requires { (r : ℕ) → Decides (member voids r) (OffersVoid (rows_in prepared.now) r) }
-    ensures { (r : ℕ) → Decides (member result r) (FitsNode (rows_in prepared.now) (Among (count_in prepared.now) pairs.now) (in_row marks.now) node r) }
-{
-    match node {
-        Node::Void => voids,
-        Node::Reference(row) => {
-            let paired = paired_rows(prepared, pairs, row);
-            channel_rows(prepared, &paired)
-        }
-        Node::Element {
-            label,
-            inside,
-            following,
-        } => {
-            let holding = holding_rows(prepared, marks, label, (inside, following));
-            element_rows(prepared, &holding)
-        }
-    }
-}
 
 // Makes the rows the marks of the node.
 fn write_marks(marks: &mut [u64], node: usize, rows: &[u64; ROW_WORDS])
@@ -58,17 +30,33 @@ fn write_marks(marks: &mut [u64], node: usize, rows: &[u64; ROW_WORDS])
     marks[first..first + ROW_WORDS].copy_from_slice(rows);
 }
 
-// Marks for each node the rows that it fits.
-fn mark_nodes(prepared: &Prepared, pairs: &[u64], nodes: &[Node], marks: &mut [u64])
-    requires few { length nodes.now ≤ max_nodes }
-    requires sound { SoundOver (rows_in prepared.now) nodes.now }
-    requires room { length marks.old ≡ length nodes.now * row_words }
-    ensures { Marked (rows_in prepared.now) (Among (count_in prepared.now) pairs.now) nodes.now marks.new }
-{
-    let voids = void_rows(prepared);
-    for (i, node) in nodes.iter().enumerate() {
-        let rows = node_rows(prepared, pairs, voids, marks, *node);
-        write_marks(marks, i, &rows);
+impl<'a> Fitting<'a> {
+    // The rows that a node fits, where the marks tell it of lower nodes.
+    fn node_rows(&self, marks: &[u64], node: Node) -> [u64; ROW_WORDS]
+        ensures { (r : ℕ) → Decides (member result r) (FitsNode (rows_fitted self.now) (Paired self.now) (in_row marks.now) node r) }
+    {
+        match node {
+            Node::Void => self.void_rows(),
+            Node::Reference(row) => self.channel_rows(&self.paired_rows(row)),
+            Node::Element {
+                label,
+                inside,
+                following,
+            } => self.element_rows(&self.holding_rows(marks, label, (inside, following))),
+        }
+    }
+
+    // Marks for each node the rows that it fits.
+    fn mark_nodes(&self, nodes: &[Node], marks: &mut [u64])
+        requires few { length nodes.now ≤ max_nodes }
+        requires sound { SoundOver (rows_fitted self.now) nodes.now }
+        requires room { length marks.old ≡ length nodes.now * row_words }
+        ensures { Marked (rows_fitted self.now) (Paired self.now) nodes.now marks.new }
+    {
+        for (i, node) in nodes.iter().enumerate() {
+            let rows = self.node_rows(marks, *node);
+            write_marks(marks, i, &rows);
+        }
     }
 }
 
@@ -86,6 +74,7 @@ pub fn mark(
     ensures length { length marks.new ≡ length marks.old }
 {
     check(prepared, order, marks.len())?;
-    mark_nodes(prepared, pairs, order.nodes, marks);
+    let fitting = Fitting { prepared, pairs };
+    fitting.mark_nodes(order.nodes, marks);
     Ok(has(marks, order.root as u16, row))
 }

@@ -6,7 +6,8 @@ ghost use Rattle.forms.specs.Rows.{belongs};
 ghost use Rattle.forms.specs.Schema.{Offers, Inhabited, IsChannel};
 ghost use Rattle.schema.specs.Rules.{OffersVoid};
 ghost use Rattle.verdicts.specs.Ready.{in_row, IsElement};
-ghost use Rattle.fitting.specs.Marks.{Among, holds};
+ghost use Rattle.fitting.specs.Fitting.{rows_fitted, Paired};
+ghost use Rattle.fitting.specs.Marks.{holds};
 ghost use Rattle.verdicts.specs.Tables.{rows_in, count_in};
 
 use forms::Row;
@@ -29,40 +30,6 @@ pub(crate) fn numbers_where<const W: usize, F: Fn(usize) -> bool>(n: usize, pass
         }
     }
     numbers
-}
-
-// The rows that offer a void row.
-pub(crate) fn void_rows(prepared: &Prepared) -> [u64; ROW_WORDS]
-    ensures { (r : ℕ) → Decides (member result r) (OffersVoid (rows_in prepared.now) r) }
-{
-    numbers_where(prepared.count(), |r| prepared.gives_void(r as u8))
-}
-
-// The rows that row c is paired with.
-pub(crate) fn paired_rows(prepared: &Prepared, pairs: &[u64], c: u8) -> [u64; ROW_WORDS]
-    ensures { (d : ℕ) → Decides (member result d) (Among (count_in prepared.now) pairs.now c d) }
-{
-    numbers_where(prepared.count(), |d| prepared.relates(pairs, c, d as u8))
-}
-
-// The rows that offer one of the channel rows.
-pub(crate) fn channel_rows(prepared: &Prepared, some: &[u64]) -> [u64; ROW_WORDS]
-    ensures { (r : ℕ) → Decides (member result r) ((d : ℕ) × Offers (rows_in prepared.now) r d × IsChannel (rows_in prepared.now) d × (member some.now d ≡ true)) }
-{
-    numbers_where(
-        prepared.count(),
-        |r| prepared.channels_of(r as u8).meets(some),
-    )
-}
-
-// The rows that offer one of the inhabited element rows.
-pub(crate) fn element_rows(prepared: &Prepared, some: &[u64]) -> [u64; ROW_WORDS]
-    ensures { (r : ℕ) → Decides (member result r) ((e : ℕ) × Offers (rows_in prepared.now) r e × Inhabited (rows_in prepared.now) e × IsElement (rows_in prepared.now) e × (member some.now e ≡ true)) }
-{
-    numbers_where(
-        prepared.count(),
-        |r| prepared.elements_of(r as u8).meets(some),
-    )
 }
 
 // Whether the label belongs to the label set, which is a set of one word.
@@ -90,17 +57,63 @@ fn holds(marks: &[u64], label: u8, nodes: (u16, u16), row: Option<Row>) -> bool
     }
 }
 
-// The element rows that have the label and hold the two nodes.
-pub(crate) fn holding_rows(
-    prepared: &Prepared,
-    marks: &[u64],
-    label: u8,
-    nodes: (u16, u16),
-) -> [u64; ROW_WORDS]
-    ensures { (e : ℕ) → Decides (member result e) (holds (in_row marks.now) label nodes.0 nodes.1 (slice_get (rows_in prepared.now) e) ≡ true) }
-{
-    numbers_where(
-        prepared.count(),
-        |e| holds(marks, label, nodes, prepared.row(e as u8)),
-    )
+// A table, and the pairs of its rows by which references fit.
+#[derive(Drop)]
+pub(crate) struct Fitting<'a> {
+    pub(crate) prepared: &'a Prepared,
+    pub(crate) pairs: &'a [u64],
+}
+
+impl<'a> Fitting<'a> {
+    // The rows that offer a void row.
+    pub(crate) fn void_rows(&self) -> [u64; ROW_WORDS]
+        ensures { (r : ℕ) → Decides (member result r) (OffersVoid (rows_fitted self.now) r) }
+    {
+        numbers_where(self.prepared.count(), |r| self.prepared.gives_void(r as u8))
+    }
+
+    // The rows that row c is paired with.
+    pub(crate) fn paired_rows(&self, c: u8) -> [u64; ROW_WORDS]
+        ensures { (d : ℕ) → Decides (member result d) (Paired self.now c d) }
+    {
+        numbers_where(
+            self.prepared.count(),
+            |d| self.prepared.relates(self.pairs, c, d as u8),
+        )
+    }
+
+    // The rows that offer one of the channel rows.
+    pub(crate) fn channel_rows(&self, some: &[u64]) -> [u64; ROW_WORDS]
+        ensures { (r : ℕ) → Decides (member result r) ((d : ℕ) × Offers (rows_fitted self.now) r d × IsChannel (rows_fitted self.now) d × (member some.now d ≡ true)) }
+    {
+        numbers_where(
+            self.prepared.count(),
+            |r| self.prepared.channels_of(r as u8).meets(some),
+        )
+    }
+
+    // The rows that offer one of the inhabited element rows.
+    pub(crate) fn element_rows(&self, some: &[u64]) -> [u64; ROW_WORDS]
+        ensures { (r : ℕ) → Decides (member result r) ((e : ℕ) × Offers (rows_fitted self.now) r e × Inhabited (rows_fitted self.now) e × IsElement (rows_fitted self.now) e × (member some.now e ≡ true)) }
+    {
+        numbers_where(
+            self.prepared.count(),
+            |r| self.prepared.elements_of(r as u8).meets(some),
+        )
+    }
+
+    // The element rows that have the label and hold the two nodes.
+    pub(crate) fn holding_rows(
+        &self,
+        marks: &[u64],
+        label: u8,
+        nodes: (u16, u16),
+    ) -> [u64; ROW_WORDS]
+        ensures { (e : ℕ) → Decides (member result e) (holds (in_row marks.now) label nodes.0 nodes.1 (slice_get (rows_fitted self.now) e) ≡ true) }
+    {
+        numbers_where(
+            self.prepared.count(),
+            |e| holds(marks, label, nodes, self.prepared.row(e as u8)),
+        )
+    }
 }

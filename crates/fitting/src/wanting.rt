@@ -7,7 +7,6 @@ ghost use Rattle.documents.specs.declared.nodes.Node.TheVariants.{Reference};
 ghost use Rattle.fitting.specs.Marks.{Referred};
 ghost use Rattle.verdicts.specs.Tables.{rows_in, count_in, related_in};
 
-use super::checking::is_channel;
 use super::rows::numbers_where;
 use documents::nodes::Node;
 use relation::offering::ROW_WORDS;
@@ -40,7 +39,7 @@ fn wants(prepared: &Prepared, rows: &[u64], place: usize) -> bool
     ensures { place < count_in prepared.now * count_in prepared.now → Decides result ((member rows.now (place / count_in prepared.now) ≡ true) × IsChannel (rows_in prepared.now) (place % count_in prepared.now)) }
 {
     match prepared.pair_at(place) {
-        Some((a, b)) => sets::test(rows, a as usize) && is_channel(prepared, b),
+        Some((a, b)) => sets::test(rows, a as usize) && prepared.is_channel(b),
         None => false,
     }
 }

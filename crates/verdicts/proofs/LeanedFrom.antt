@@ -12,10 +12,11 @@ use Rattle.schema.specs.Rules.Leans.{on_itself, on_named}
 use Rattle.schema.specs.Theorems.{Confined}
 use Rattle.schema.proofs.Leaning.{leans_on}
 use Rattle.schema.proofs.Order.{square_in, square_out, square_confined}
-use Rattle.verdicts.specs.Naming.{NamedFor, Noted, Pended}
+use Rattle.verdicts.specs.Naming.{NamedFor, Pended}
 use Rattle.verdicts.specs.Pairs.{place_of, related, Leaned}
+use Rattle.verdicts.specs.declared.prepared.leaning.Met.{Met}
 use Rattle.verdicts.specs.declared.prepared.leaning.Walk.{Walk}
-use Rattle.verdicts.specs.Walking.{Notes, Takes}
+use Rattle.verdicts.specs.Walking.{Notes, MetBy, Takes}
 use Rattle.verdicts.proofs.Deciding.{between_parts, between_from, pair_parts, place_div, place_mod, square_small}
 use Rattle.verdicts.proofs.Naming.{place_in, place_parts}
 
@@ -161,10 +162,12 @@ module _ (rows : List Row) (starts : List ℕ) where
         (cases_Bool (member done k))
 
 -- the walk so far: what is leaned on, and which rows were gone through against which sets
-pub record Walking (rows : List Row) (channels elements starts links parts : List ℕ) (walk : Walk) : Type 0 where
+pub record Walking (rows : List Row) (channels elements starts : List ℕ) (links parts : Met) (walk : Walk) : Type 0 where
   pub leaning : Leaning rows starts walk.done walk.pending
-  pub linked : Noted rows channels links walk.done walk.pending
-  pub parted : Noted rows elements parts walk.done walk.pending
+  pub linked : MetBy rows links walk
+  pub parted : MetBy rows parts walk
+  pub of_channels : links.cells.now ≡ channels
+  pub of_elements : parts.cells.now ≡ elements
 
 -- the place of a pair alone, as a set
 pub alone_put : (place : Option ℕ) (m k : ℕ) (new : List ℕ) → place ≡ Some k → ((j : ℕ) → member new j ≡ (eqb j k || member (replicate m 0) j)) → (j : ℕ) → Decides (member new j) (place ≡ Some j)

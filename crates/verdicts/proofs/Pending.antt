@@ -1,12 +1,18 @@
 -- Noting what is pending, step by step. Assumes nothing.
-use Rattle.std.proofs.Common.{◌≡◌, ℕ, ◌+◌, ◌*◌, ◌<◌, ◌≤◌, Bool, true, ◌⊎◌, List, replicate, ◌∙◌, subst, inl, inr, ⊎_elim, arith}
+use Rattle.std.proofs.Common.{get_or, Option, Some, None, ◌≡◌, ℕ, ◌+◌, ◌*◌, ◌<◌, ◌≤◌, Bool, true, false, ◌⊎◌, List, ap, ◌∙◌, subst, inl, inr, ⊎_elim, arith}
 use Rattle.std.proofs.lemmas.Bool.{both_ways}
 use Rattle.forms.specs.Limits.{max_rows}
 use Rattle.forms.specs.declared.Row.{Row}
-use Rattle.sets.proofs.Membership.{zeros_none}
-use Rattle.verdicts.specs.Naming.{Noted, Pended}
-use Rattle.verdicts.specs.Walking.{Notes}
+use Rattle.sets.specs.Sets.{member}
+use Rattle.verdicts.specs.Naming.{NamedAmong, NamedFor, Pended}
+use Rattle.verdicts.specs.Pairs.{place_of}
+use Rattle.verdicts.specs.Ready.{in_row}
+use Rattle.verdicts.specs.Tables.{rows_in}
+use Rattle.verdicts.specs.Walking.{Notes, MetBy}
+use Rattle.verdicts.specs.declared.prepared.Prepared.{Prepared}
+use Rattle.verdicts.specs.declared.prepared.leaning.Met.{Met}
 use Rattle.verdicts.specs.declared.prepared.leaning.Walk.{Walk}
+use Rattle.verdicts.proofs.Naming.{named_is, is_named}
 use Rattle.verdicts.proofs.Walks.{in_row_below, Found, walk_split}
 
 pub pended_then : {P Q : ℕ → Type 0} {done old mid new : List ℕ} → Pended P done old mid → Pended Q done mid new → Pended (λ k. P k ⊎ Q k) done old new
@@ -47,6 +53,24 @@ module _ (f : ℕ → Bool) (N : ℕ → ℕ → Type 0) where
       up : (e : ℕ) → e < from → from ≤ o → e < o + 1
       up e a b = omega arith
 
-module _ (rows : List Row) (cells : List ℕ) where
-  pub noted_none : (m : ℕ) (done pending : List ℕ) → Noted rows cells (replicate m 0) done pending
-  noted_none m done pending c q k on named = let (_, there) = in_row_below (replicate m 0) c q on in absurd (both_ways _ (zeros_none m (c * max_rows + q)) there)
+-- the places of the first i of some pairs
+abbrev pub NotedOf : ℕ → List (Option (ℕ × ℕ)) → ℕ → ℕ → Type 0
+NotedOf n pairs i k = (j : ℕ) × (j < i) × (place_of n (get_or pairs j None) ≡ Some k)
+
+module _ (rows : List Row) (met : Met) where
+  pub none_met : (walk : Walk) → ((k : ℕ) → member met.met k ≡ false) → MetBy rows met walk
+  none_met walk none c q k on named = let (_, there) = in_row_below met.met c q on in absurd (both_ways _ (none (c * max_rows + q)) there)
+
+  -- what is noted stays so while more is
+  pub met_still : {P : ℕ → Type 0} {old new : Walk} → Notes P old new → MetBy rows met old → MetBy rows met new
+  met_still notes noted c q k on named = ⊎_elim (λ d. inl (ap (λ ws. member ws k) notes.done ∙ d)) (λ m. inr (notes.pended.more k m)) (noted c q k on named)
+
+-- the pairs that are named for a pair: those of its channel rows, and those of its element rows
+pub pair_named : (t : Prepared) (pair : ℕ × ℕ) (links parts : Met) → links.cells.now ≡ t.channels → parts.cells.now ≡ t.elements → {old mid new : Walk}
+    → Notes (NamedAmong (rows_in t) (in_row links.cells.now pair.0) (in_row links.cells.now pair.1)) old mid
+    → Notes (NamedAmong (rows_in t) (in_row parts.cells.now pair.0) (in_row parts.cells.now pair.1)) mid new
+    → Notes (NamedFor (rows_in t) pair.0 pair.1) old new
+pair_named t pair links parts channels elements {old} {mid} {new} one two = notes_same (is_named t pair.0 pair.1) (named_is t pair.0 pair.1)
+    (notes_then
+    (subst (λ cells. Notes (NamedAmong (rows_in t) (in_row cells pair.0) (in_row cells pair.1)) old mid) channels one)
+    (subst (λ cells. Notes (NamedAmong (rows_in t) (in_row cells pair.0) (in_row cells pair.1)) mid new) elements two))

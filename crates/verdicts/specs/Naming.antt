@@ -1,5 +1,5 @@
 -- The pairs that the rules name for two rows, as tests, and what is pending after they were noted. Assumes nothing.
-use Rattle.std.specs.Prelude.{◌≡◌, ℕ, ◌+◌, ◌*◌, ◌<◌, Bool, true, false, cond, ◌⊎◌, List, length, Some, None, Option}
+use Rattle.std.specs.Prelude.{◌≡◌, ℕ, ◌+◌, ◌*◌, ◌<◌, Bool, true, false, cond, ◌⊎◌, List, [], ◌∷◌, length, Some, None, Option}
 use Rattle.std.specs.List.{slice_get}
 use Rattle.sets.specs.Sets.{member}
 use Rattle.forms.specs.declared.Row.{Row}
@@ -16,6 +16,10 @@ Two = Option (ℕ × ℕ) × Option (ℕ × ℕ)
 
 abbrev pub neither : Two
 neither = (None, None)
+
+-- the two, one after the other
+abbrev pub both : Two → List (Option (ℕ × ℕ))
+both named = named.0 ∷ named.1 ∷ []
 
 -- the payloads of two channels in the order of capabilities: forward, backward, or both ways
 abbrev pub names_of_payloads : Capability → Capability → ℕ → ℕ → Two

@@ -1,14 +1,20 @@
 -- The walk from pairs to the pairs that the rules name for them, and its steps. Assumes nothing.
-use Rattle.std.specs.Prelude.{◌≡◌, ℕ, ◌*◌, ◌<◌, true, false, cond, ◌||◌, ◌==◌, Some}
+use Rattle.std.specs.Prelude.{◌≡◌, ℕ, ◌*◌, ◌<◌, true, false, cond, ◌||◌, ◌==◌, List, Some}
 use Rattle.sets.specs.Sets.{member}
-use Rattle.verdicts.specs.Naming.{Pended}
+use Rattle.forms.specs.declared.Row.{Row}
+use Rattle.verdicts.specs.Naming.{Pended, Noted}
 use Rattle.verdicts.specs.Pairs.{pair_of}
+use Rattle.verdicts.specs.declared.prepared.leaning.Met.{Met}
 use Rattle.verdicts.specs.declared.prepared.leaning.Walk.{Walk}
 
 -- the places that P names are pending now, but for those that are done; what is done stays
 pub record Notes (P : ℕ → Type 0) (old new : Walk) : Type 0 where
   pub done : new.done ≡ old.done
   pub pended : Pended P old.done old.pending new.pending
+
+-- of the rows and sets that were met, the pairs that are named are done or pending
+abbrev pub MetBy : List Row → Met → Walk → Type 0
+MetBy rows met walk = Noted rows met.cells.now met.met walk.done walk.pending
 
 -- a pair of n rows was pending and is done
 pub record Takes (n : ℕ) (pair : ℕ × ℕ) (old new : Walk) : Type 0 where

@@ -10,6 +10,7 @@ use relation::offering::ROW_WORDS;
 use sets;
 
 // The set of one row. It goes through its members, from the lowest to the highest.
+// As it is: it holds no `sets::Members`, whose words only that crate can read. `meets` would need them beside it, with two facts on the type: that both are the same, and no longer than a row's, so that a member is a `u8`.
 #[derive(Clone, Copy)]
 pub struct RowSet<'a> {
     cells: &'a [u64],

@@ -13,7 +13,7 @@ ghost use Rattle.verdicts.specs.Within.{rows_within, relation_of};
 use super::super::rowsets::RowSet;
 use super::Prepared;
 use super::naming::{named_by_channel, named_by_element};
-use forms::{Capability, FormSource, MAX_ROWS, Row};
+use forms::{Capability, FormSource, Row};
 use relation::offering::has;
 use sets;
 
@@ -53,16 +53,17 @@ impl<'a> Within<'a> {
     fn takes(&self, c: (Capability, u8), d: u8) -> bool
         ensures { result ≡ takes (relation_of self.now) c.0 c.1 (slice_get (rows_within self.now) d) }
     {
-        let (one, two) = named_by_channel(c, self.prepared.table.row(d));
-        (one.is_some() || two.is_some()) && self.relates_named(one) && self.relates_named(two)
+        let named = named_by_channel(c, self.prepared.table.row(d));
+        named.iter().any(|pair| pair.is_some())
+            && named.iter().all(|pair| self.relates_named(*pair))
     }
 
     // Whether the set has the pairs that the rules name for an element row and row f.
     fn agrees_at(&self, labels: u64, parts: (u8, u8), f: u8) -> bool
         ensures { result ≡ agrees_at (relation_of self.now) labels parts.0 parts.1 (slice_get (rows_within self.now) f) }
     {
-        let (one, two) = named_by_element(labels, parts, self.prepared.table.row(f));
-        self.relates_named(one) && self.relates_named(two)
+        let named = named_by_element(labels, parts, self.prepared.table.row(f));
+        named.iter().all(|pair| self.relates_named(*pair))
     }
 
     // The same of two rows, of which the first is given.
@@ -91,12 +92,21 @@ impl<'a> Within<'a> {
         RowSet::of(&self.prepared.channels, q).any(|d| self.takes(c, d))
     }
 
+    // The same, of row c, if it is a channel row.
+    fn takes_channel(&self, c: u8, q: u8) -> bool
+        ensures { Decides result (ChannelTaken (rows_within self.now) (relation_of self.now) c q) }
+    {
+        match self.prepared.table.row(c) {
+            Some(Row::Channel(capability, payload)) => self.taken((capability, payload), c, q),
+            _ => true,
+        }
+    }
+
     // The same, of all channel rows that row p offers.
     fn rows_taken(&self, p: u8, q: u8) -> bool
         ensures { Decides result ((c : ℕ) → in_row self.now.prepared.now.channels p c ≡ true → ChannelTaken (rows_within self.now) (relation_of self.now) c q) }
     {
-        let (prepared, pairs) = (self.prepared, self.pairs);
-        RowSet::of(&prepared.channels, p).all(|c| prepared.takes_channel(pairs, c, q))
+        RowSet::of(&self.prepared.channels, p).all(|c| self.takes_channel(c, q))
     }
 
     // Whether a row agrees with all inhabited element rows that row q offers.
@@ -157,10 +167,7 @@ impl Prepared {
             prepared: self,
             pairs,
         };
-        match self.table.row(c) {
-            Some(Row::Channel(capability, payload)) => within.taken((capability, payload), c, q),
-            _ => true,
-        }
+        within.takes_channel(c, q)
     }
 
     // Whether row q offers a void row if row p does.

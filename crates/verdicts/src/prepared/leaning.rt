@@ -5,11 +5,11 @@ ghost use Rattle.sets.specs.Sets.{member};
 ghost use Rattle.forms.specs.Limits.{max_rows};
 ghost use Rattle.schema.specs.Rules.{Below, Included, Leans};
 ghost use Rattle.schema.specs.Theorems.{Confined};
-ghost use Rattle.verdicts.specs.Naming.{NamedAt, NamedAmong, NamedWith, NamedFor, Noted};
+ghost use Rattle.verdicts.specs.Naming.{NamedAt, NamedAmong, NamedWith};
 ghost use Rattle.verdicts.specs.Pairs.{place_of, Leaned};
 ghost use Rattle.verdicts.specs.Ready.{in_row};
 ghost use Rattle.verdicts.specs.Tables.{rows_in, count_in, related_in};
-ghost use Rattle.verdicts.specs.Walking.{Notes, Takes, IsAtRest};
+ghost use Rattle.verdicts.specs.Walking.{Notes, MetBy, Takes, IsAtRest};
 
 use super::super::rowsets::RowSet;
 use super::Prepared;
@@ -24,6 +24,56 @@ use sets;
 struct Walk {
     done: [u64; PAIR_WORDS],
     pending: [u64; PAIR_WORDS],
+}
+
+// The sets of one sort, and for which rows and sets of it a walk has noted the pairs that the rules name.
+#[derive(Drop)]
+struct Met<'a> {
+    cells: &'a [u64; CELL_WORDS],
+    met: [u64; CELL_WORDS],
+}
+
+impl<'a> Met<'a> {
+    // The sets of a sort, none of which the walk has met.
+    fn of(cells: &'a [u64; CELL_WORDS]) -> Met<'a>
+        ensures sets { result.cells.now ≡ cells.now }
+        ensures none { (k : ℕ) → member result.met k ≡ false }
+    {
+        Met {
+            cells,
+            met: [0; CELL_WORDS],
+        }
+    }
+
+    // Notes the pairs that the rules name for row c and those in the set of row q, unless that was done before.
+    fn name_once(&mut self, prepared: &Prepared, walk: &mut Walk, pair: (u8, u8))
+        requires first { pair.0 < max_rows }
+        requires second { pair.1 < max_rows }
+        requires noted { MetBy (rows_in prepared.now) self.old walk.old }
+        ensures pended { Notes (NamedWith (rows_in prepared.now) self.old.cells.now pair.0 pair.1) walk.old walk.new }
+        ensures noted { MetBy (rows_in prepared.now) self.new walk.new }
+        ensures same { self.new.cells ≡ self.old.cells }
+    {
+        let (c, q) = pair;
+        if !has(&self.met, c as u16, q) {
+            prepared.name_row(walk, self.cells, prepared.table.row(c), q);
+            sets::put(&mut self.met, c as usize * MAX_ROWS + q as usize);
+        }
+    }
+
+    // Notes the pairs that the rules name for the rows in the set of row p and those in the set of row q, each row and set once.
+    fn name_sets_once(&mut self, prepared: &Prepared, walk: &mut Walk, pair: (u8, u8))
+        requires second { pair.1 < max_rows }
+        requires noted { MetBy (rows_in prepared.now) self.old walk.old }
+        ensures pended { Notes (NamedAmong (rows_in prepared.now) (in_row self.old.cells.now pair.0) (in_row self.old.cells.now pair.1)) walk.old walk.new }
+        ensures noted { MetBy (rows_in prepared.now) self.new walk.new }
+        ensures same { self.new.cells ≡ self.old.cells }
+    {
+        let cells = self.cells;
+        for c in RowSet::of(cells, pair.0) {
+            self.name_once(prepared, walk, (c, pair.1));
+        }
+    }
 }
 
 impl Prepared {
@@ -42,9 +92,9 @@ impl Prepared {
     fn name_rows(&self, walk: &mut Walk, c: Option<Row>, d: Option<Row>)
         ensures { Notes (NamedAt (count_in self.now) c d) walk.old walk.new }
     {
-        let (one, two) = named_by(c, d);
-        self.note(walk, one);
-        self.note(walk, two);
+        for pair in named_by(c, d) {
+            self.note(walk, pair);
+        }
     }
 
     // Notes the pairs that the rules name for a row and those in the set of row q.
@@ -54,63 +104,6 @@ impl Prepared {
         for d in RowSet::of(cells, q) {
             self.name_rows(walk, c, self.table.row(d));
         }
-    }
-
-    // Notes the pairs that the rules name for row c and those in the set of row q, unless that was done before. What was done is in `met`.
-    // As it is: `met` is no part of the walk, since there are two of it, and a walk that held them could not hand on one of them beside itself.
-    fn name_once(
-        &self,
-        walk: &mut Walk,
-        cells: &[u64; CELL_WORDS],
-        met: &mut [u64; CELL_WORDS],
-        pair: (u8, u8),
-    )
-        requires first { pair.0 < max_rows }
-        requires second { pair.1 < max_rows }
-        requires noted { Noted (rows_in self.now) cells.now met.old walk.old.done walk.old.pending }
-        ensures pended { Notes (NamedWith (rows_in self.now) cells.now pair.0 pair.1) walk.old walk.new }
-        ensures noted { Noted (rows_in self.now) cells.now met.new walk.new.done walk.new.pending }
-    {
-        let (c, q) = pair;
-        if !has(met, c as u16, q) {
-            self.name_row(walk, cells, self.table.row(c), q);
-            sets::put(met, c as usize * MAX_ROWS + q as usize);
-        }
-    }
-
-    // Notes the pairs that the rules name for the rows in the set of row p and those in the set of row q, each row and set once.
-    fn name_sets_once(
-        &self,
-        walk: &mut Walk,
-        cells: &[u64; CELL_WORDS],
-        met: &mut [u64; CELL_WORDS],
-        pair: (u8, u8),
-    )
-        requires second { pair.1 < max_rows }
-        requires noted { Noted (rows_in self.now) cells.now met.old walk.old.done walk.old.pending }
-        ensures pended { Notes (NamedAmong (rows_in self.now) (in_row cells.now pair.0) (in_row cells.now pair.1)) walk.old walk.new }
-        ensures noted { Noted (rows_in self.now) cells.now met.new walk.new.done walk.new.pending }
-    {
-        for c in RowSet::of(cells, pair.0) {
-            self.name_once(walk, cells, met, (c, pair.1));
-        }
-    }
-
-    // Notes the pairs that the rules name for a pair. What was done for channels and for elements is in `links` and `parts`.
-    fn name_pair_once(
-        &self,
-        walk: &mut Walk,
-        links: &mut [u64; CELL_WORDS],
-        parts: &mut [u64; CELL_WORDS],
-        pair: (u8, u8),
-    )
-        requires second { pair.1 < max_rows }
-        requires noted { Noted (rows_in self.now) self.now.channels links.old walk.old.done walk.old.pending × Noted (rows_in self.now) self.now.elements parts.old walk.old.done walk.old.pending }
-        ensures pended { Notes (NamedFor (rows_in self.now) pair.0 pair.1) walk.old walk.new }
-        ensures noted { Noted (rows_in self.now) self.now.channels links.new walk.new.done walk.new.pending × Noted (rows_in self.now) self.now.elements parts.new walk.new.done walk.new.pending }
-    {
-        self.name_sets_once(walk, &self.channels, links, pair);
-        self.name_sets_once(walk, &self.elements, parts, pair);
     }
 
     // Takes the lowest pair that is pending, which is done from then on.
@@ -134,10 +127,11 @@ impl Prepared {
             done: [0; PAIR_WORDS],
             pending: starts,
         };
-        let mut links = [0; CELL_WORDS];
-        let mut parts = [0; CELL_WORDS];
+        let mut links = Met::of(&self.channels);
+        let mut parts = Met::of(&self.elements);
         while let Some(pair) = self.take_lowest(&mut walk) {
-            self.name_pair_once(&mut walk, &mut links, &mut parts, pair);
+            links.name_sets_once(self, &mut walk, pair);
+            parts.name_sets_once(self, &mut walk, pair);
         }
         walk.done
     }

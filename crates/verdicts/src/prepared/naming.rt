@@ -1,32 +1,29 @@
 // The pairs of rows that the rules name for two rows: at most two.
 ghost use Rattle.std.specs.Prelude.{◌≡◌};
-ghost use Rattle.verdicts.specs.Naming.{names_of_payloads, names_by_channel, names_by_element, named_by};
+ghost use Rattle.verdicts.specs.Naming.{both, names_of_payloads, names_by_channel, names_by_element, named_by};
 
 use forms::{Capability, Row};
 use relation::admission::meets;
 
 // The pairs of payloads that the rules name for two channels.
-fn named_payloads(c: (Capability, u8), d: (Capability, u8)) -> (Option<(u8, u8)>, Option<(u8, u8)>)
-    ensures { result ≡ names_of_payloads c.0 d.0 c.1 d.1 }
+fn named_payloads(c: (Capability, u8), d: (Capability, u8)) -> [Option<(u8, u8)>; 2]
+    ensures { result ≡ both (names_of_payloads c.0 d.0 c.1 d.1) }
 {
     match (c.0, d.0) {
-        (Capability::In | Capability::Both, Capability::In) => (Some((c.1, d.1)), None),
-        (Capability::Out | Capability::Both, Capability::Out) => (None, Some((d.1, c.1))),
-        (Capability::Both, Capability::Both) => (Some((c.1, d.1)), Some((d.1, c.1))),
-        _ => (None, None),
+        (Capability::In | Capability::Both, Capability::In) => [Some((c.1, d.1)), None],
+        (Capability::Out | Capability::Both, Capability::Out) => [None, Some((d.1, c.1))],
+        (Capability::Both, Capability::Both) => [Some((c.1, d.1)), Some((d.1, c.1))],
+        _ => [None, None],
     }
 }
 
 // The same for a channel and a row.
-pub(crate) fn named_by_channel(
-    c: (Capability, u8),
-    row: Option<Row>,
-) -> (Option<(u8, u8)>, Option<(u8, u8)>)
-    ensures { result ≡ names_by_channel c.0 c.1 row }
+pub(crate) fn named_by_channel(c: (Capability, u8), row: Option<Row>) -> [Option<(u8, u8)>; 2]
+    ensures { result ≡ both (names_by_channel c.0 c.1 row) }
 {
     match row {
         Some(Row::Channel(capability, payload)) => named_payloads(c, (capability, payload)),
-        _ => (None, None),
+        _ => [None, None],
     }
 }
 
@@ -35,8 +32,8 @@ pub(crate) fn named_by_element(
     labels: u64,
     parts: (u8, u8),
     row: Option<Row>,
-) -> (Option<(u8, u8)>, Option<(u8, u8)>)
-    ensures { result ≡ names_by_element labels parts.0 parts.1 row }
+) -> [Option<(u8, u8)>; 2]
+    ensures { result ≡ both (names_by_element labels parts.0 parts.1 row) }
 {
     match row {
         Some(
@@ -47,18 +44,18 @@ pub(crate) fn named_by_element(
             },
         ) => {
             if meets(labels, other) {
-                (Some((parts.0, inside)), Some((parts.1, following)))
+                [Some((parts.0, inside)), Some((parts.1, following))]
             } else {
-                (None, None)
+                [None, None]
             }
         }
-        _ => (None, None),
+        _ => [None, None],
     }
 }
 
 // The pairs that the rules name for two rows.
-pub(crate) fn named_by(c: Option<Row>, d: Option<Row>) -> (Option<(u8, u8)>, Option<(u8, u8)>)
-    ensures { result ≡ named_by c d }
+pub(crate) fn named_by(c: Option<Row>, d: Option<Row>) -> [Option<(u8, u8)>; 2]
+    ensures { result ≡ both (named_by c d) }
 {
     match c {
         Some(Row::Channel(capability, payload)) => named_by_channel((capability, payload), d),
@@ -69,6 +66,6 @@ pub(crate) fn named_by(c: Option<Row>, d: Option<Row>) -> (Option<(u8, u8)>, Opt
                 following,
             },
         ) => named_by_element(labels, (inside, following), d),
-        _ => (None, None),
+        _ => [None, None],
     }
 }

@@ -9,6 +9,7 @@ ghost use Rattle.verdicts.specs.Ready.{IsElement};
 ghost use Rattle.verdicts.specs.RowSets.{row_set};
 ghost use Rattle.verdicts.specs.Tables.{rows_in};
 
+use super::super::kinds::is_channel;
 use super::super::rowsets::RowSet;
 use super::Prepared;
 use forms::{FormSource, Row};
@@ -19,6 +20,13 @@ impl Prepared {
         ensures { result ≡ slice_get (rows_in self.now) number }
     {
         self.table.row(number)
+    }
+
+    // Whether the row with that number is a channel row.
+    pub fn is_channel(&self, number: u8) -> bool
+        ensures { Decides result (IsChannel (rows_in self.now) number) }
+    {
+        is_channel(self.row(number))
     }
 
     // Whether row p offers a void row.

@@ -1,16 +1,16 @@
-use Rattle.std.proofs.Common.{false, refl, below_more}
-use Rattle.std.proofs.lemmas.Bool.{both_ways}
+use Rattle.std.proofs.Common.{rules, ℕ, get_or, length}
+use Rattle.std.proofs.lemmas.Iterator.{first_from_Range}
 use Rattle.forms.specs.Buffers.{rows_of}
 use Rattle.forms.specs.Schema.{IsChannel}
 use Rattle.documents.specs.Nodes.{SoundWith}
-use Rattle.documents.proofs.Shapes.{first_unsound, one_more_sound, all_sound}
+use Rattle.documents.specs.declared.nodes.Node.TheVariants.{Void}
+use Rattle.fitting.proofs.Refusing.{sound_or_lowest}
 use Rattle.fitting.proofs.checking.unsound.Goals as goal
-
-pub returns-then-not-sound : goal.returns-then-not-sound
-returns-then-not-sound c = first_unsound (SoundWith (IsChannel (rows_of c.args.prepared.now.table))) c.args.nodes.now c.loop-k.k c.loop-k-test.true c.loop-k.invariant (λ s. both_ways false refl (c.if-not-sound.ensures.1 s))
-
-pub loop-k-preserved : goal.loop-k-preserved
-loop-k-preserved c = below_more _ _ c.loop-k.invariant (one_more_sound (SoundWith (IsChannel (rows_of c.args.prepared.now.table))) c.args.nodes.now c.loop-k.k c.loop-k-test.true (c.if-not-sound.ensures.0 refl))
+use borrow.Author.Tests.{tests}
 
 pub returns : goal.returns
-returns c = record { each = all_sound (SoundWith (IsChannel (rows_of c.args.prepared.now.table))) c.args.nodes.now c.loop-k.k c.loop-k-test.false c.loop-k.invariant }
+returns c =
+    let rows = rows_of c.args.prepared.now.table in
+    let nodes = c.args.nodes.now in
+    let Sound : ℕ → Type 0 = λ k. SoundWith (IsChannel rows) k (get_or nodes k Void) in
+    sound_or_lowest rows nodes c.find.result (first_from_Range (record { start = 0; end = length nodes }) _ _ c.find.result (λ k. Sound k → ⊥) Sound c.find.ensures.ran (λ x q k. search (rules, tests)) (λ x q k. search (rules, tests)))

@@ -1,4 +1,4 @@
-use Rattle.std.proofs.Common.{◌≡◌, ℕ, ◌*◌, ◌/◌, ◌<◌, false, length, sym, refl, subst}
+use Rattle.std.proofs.Common.{◌≡◌, ℕ, ◌*◌, ◌/◌, ◌<◌, false, List, length, Bor, sym, refl, ap, ◌∙◌, subst}
 use Rattle.sets.specs.Sets.{word, member}
 use Rattle.forms.specs.Buffers.{rows_of}
 use Rattle.forms.specs.Laws.{buffer_laws}
@@ -6,7 +6,7 @@ use Rattle.forms.specs.Limits.{max_rows}
 use Rattle.verdicts.specs.Facts.{bounded_of, admitted_of}
 use Rattle.verdicts.specs.declared.prepared.leaning.Walk.{Walk}
 use Rattle.verdicts.proofs.LeanedFrom.{Leaning, leaning_none, walk_more, walk_less, leans_decided, leans_confined, leans_rest}
-use Rattle.verdicts.proofs.Pending.{noted_none}
+use Rattle.verdicts.proofs.Pending.{none_met, met_still, pair_named}
 use Rattle.verdicts.proofs.prepared.Prepared.leaned_from.Goals as goal
 
 pub loop-pair-init : goal.loop-pair-init
@@ -14,24 +14,32 @@ loop-pair-init c =
     let t = c.args.self.now in
     record {
       leaning = leaning_none (rows_of t.table) c.args.starts (max_rows * max_rows / word) (admitted_of t).some;
-      linked = noted_none (rows_of t.table) t.channels (max_rows * max_rows / word) _ _;
-      parted = noted_none (rows_of t.table) t.elements (max_rows * max_rows / word) _ _;
+      linked = none_met (rows_of t.table) c.of-links.result _ c.of-links.ensures.none;
+      parted = none_met (rows_of t.table) c.of-parts.result _ c.of-parts.ensures.none;
+      of_channels = c.of-links.ensures.sets;
+      of_elements = c.of-parts.ensures.sets;
     }
 
 pub loop-pair-smaller : goal.loop-pair-smaller
 loop-pair-smaller c =
     let t = c.args.self.now in
-    walk_less (rows_of t.table) c.args.starts (buffer_laws t.table).few c.loop-pair.walk c.take_lowest.new.walk c.name_pair_once.new.walk c.in-Some.pair c.loop-pair.invariant.leaning
-    c.in-Some.ensures c.name_pair_once.ensures.pended (max_rows * max_rows) refl
+    let i = c.loop-pair.invariant in
+    let named = pair_named t c.in-Some.pair c.loop-pair.links c.loop-pair.parts i.of_channels i.of_elements c.name_sets_once.ensures.pended c.name_sets_once-in-Some.ensures.pended in
+    walk_less (rows_of t.table) c.args.starts (buffer_laws t.table).few c.loop-pair.walk c.take_lowest.new.walk c.name_sets_once-in-Some.new.walk c.in-Some.pair c.loop-pair.invariant.leaning
+    c.in-Some.ensures named (max_rows * max_rows) refl
 
 pub loop-pair-preserved : goal.loop-pair-preserved
 loop-pair-preserved c =
     let t = c.args.self.now in
+    let i = c.loop-pair.invariant in
+    let named = pair_named t c.in-Some.pair c.loop-pair.links c.loop-pair.parts i.of_channels i.of_elements c.name_sets_once.ensures.pended c.name_sets_once-in-Some.ensures.pended in
     record {
-      leaning = walk_more (rows_of t.table) c.args.starts (buffer_laws t.table).few c.loop-pair.walk c.take_lowest.new.walk c.name_pair_once.new.walk c.in-Some.pair c.loop-pair.invariant.leaning
-          c.in-Some.ensures c.name_pair_once.ensures.pended;
-      linked = c.name_pair_once.ensures.noted.0;
-      parted = c.name_pair_once.ensures.noted.1;
+      leaning = walk_more (rows_of t.table) c.args.starts (buffer_laws t.table).few c.loop-pair.walk c.take_lowest.new.walk c.name_sets_once-in-Some.new.walk c.in-Some.pair c.loop-pair.invariant.leaning
+          c.in-Some.ensures named;
+      linked = met_still (rows_of t.table) c.name_sets_once.new.self c.name_sets_once-in-Some.ensures.pended c.name_sets_once.ensures.noted;
+      parted = c.name_sets_once-in-Some.ensures.noted;
+      of_channels = ap (λ (cells : Bor (List ℕ)). cells.now) c.name_sets_once.ensures.same ∙ i.of_channels;
+      of_elements = ap (λ (cells : Bor (List ℕ)). cells.now) c.name_sets_once-in-Some.ensures.same ∙ i.of_elements;
     }
 
 pub returns : goal.returns

@@ -3,11 +3,11 @@ use Rattle.forms.specs.Buffers.{rows_of}
 use Rattle.schema.specs.Rules.{OffersVoid}
 use Rattle.fitting.proofs.Bounds.{void_below}
 use Rattle.sets.proofs.Picking.{picked_all}
-use Rattle.fitting.proofs.rows.void_rows.Goals as goal
+use Rattle.fitting.proofs.rows.Fitting.void_rows.Goals as goal
 use borrow.Author.Tests.{tests}
 
 pub returns : goal.returns
 returns c =
-    let rows = rows_of c.args.prepared.now.table in
+    let rows = rows_of c.args.self.now.prepared.now.table in
     picked_all _ _ (OffersVoid rows) c.numbers_where.result c.count.result c.numbers_where.ensures.passed c.numbers_where.ensures.others
     (λ k h. search (rules, tests)) (λ k h. search (rules, tests)) (λ k v. subst (λ n. k < n) (sym c.count.ensures.is) (void_below rows k v))
