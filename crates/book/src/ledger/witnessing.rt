@@ -17,8 +17,7 @@ impl Ledger {
         if self.look_up(pair)? != Some(Verdict::No) {
             return Err(BookFault::NotHeldAsNo);
         }
-        let n = self.prepared.count();
-        if nodes.len() < n * (n + 1) {
+        if nodes.len() < showing::most_nodes(&self.prepared) {
             return Err(BookFault::FewNodes);
         }
         Ok(showing::show(&self.prepared, pair, nodes).unwrap())
