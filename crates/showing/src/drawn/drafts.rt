@@ -15,11 +15,10 @@ use sets;
 use verdicts::prepared::Prepared;
 
 // The lowest label of a set.
-// As it is: `sets::next` would take a slice made of the word, and answer a place that is cast back to a label.
 fn lowest(labels: u64) -> Option<u8>
     ensures { result ≡ lowest labels }
 {
-    (labels != 0).then(|| labels.trailing_zeros() as u8)
+    Some(sets::next(&[labels], 0)? as u8)
 }
 
 // The node of an element that has a label and whose parts have nodes.
@@ -72,6 +71,8 @@ fn open(question: &Question, k: usize) -> bool
     k < n * n && sets::test(question.leaned, k) && !sets::test(question.below, k)
 }
 
+// As it is: the prepared table is handed on beside what is drawn, since a struct of the two would be made anew for each
+// draft, and each contract would name both of its parts.
 impl Drawn {
     // The node at a place, if there is one.
     pub(crate) fn node(&self, place: usize) -> Option<u16>
