@@ -6,7 +6,6 @@ pub mod Asking
 pub mod Telling
 pub mod Offering
 pub mod Fitting
-pub mod Witnessing
 pub mod Taking
 pub mod Meeting
 pub mod Same

@@ -1,6 +1,6 @@
 -- Opening, clearing, and taking in a relation. Assumes nothing.
 use Rattle.forms.proofs.Findings.{never}
-use Rattle.std.proofs.Common.{◌≡◌, ℕ, ◌+◌, ◌*◌, ◌/◌, ◌%◌, ◌<◌, true, false, not, ◌&&◌, List, length, replicate, sym, refl, ap, ◌∙◌, subst, subst₂, ⊎_elim, arith}
+use Rattle.std.proofs.Common.{◌≡◌, ℕ, ◌+◌, ◌*◌, ◌/◌, ◌%◌, ◌<◌, true, false, not, ◌&&◌, List, length, Option, Some, None, MatchOption, replicate, sym, refl, ap, ◌∙◌, subst, subst₂, ⊎_elim, arith}
 use lib.ListN.{length-replicate}
 use Rattle.std.proofs.lemmas.Nat.{mul-add-lt, div-add-mod', div_below, mod_below}
 use Rattle.std.proofs.lemmas.Bool.{both_ways, cases_Bool, cases_order}
@@ -13,8 +13,8 @@ use Rattle.forms.specs.declared.Row.{Row}
 use Rattle.sets.proofs.Membership.{zeros_none}
 use Rattle.schema.specs.Rules.{Keeps, Closed}
 use Rattle.verdicts.specs.Facts.{admitted_of}
-use Rattle.verdicts.specs.Pairs.{related}
-use Rattle.verdicts.proofs.Deciding.{between_parts, between_from, place_div, place_mod}
+use Rattle.verdicts.specs.Pairs.{related, pair_of}
+use Rattle.verdicts.proofs.Deciding.{between_parts, between_from, place_div, place_mod, pair_parts, pair_none}
 use Rattle.book.specs.Answers.{OfferAnswered}
 use Rattle.book.specs.Calls.Answer.{offered, cleared}
 use Rattle.book.specs.Calls.Call.{offer, clear}
@@ -22,7 +22,7 @@ use Rattle.book.specs.Doing.{Done}
 use Rattle.book.specs.Faults.{book_refusal}
 use Rattle.book.specs.Keeping.{PairSet, Kept}
 use Rattle.book.specs.Ledgers.{ledger_rows, Holds}
-use Rattle.book.specs.Relations.{WellShaped, Consistent, Breaks}
+use Rattle.book.specs.Relations.{WellShaped, Consistent, Breaks, Stands}
 use Rattle.book.specs.declared.ledger.Ledger.{Ledger}
 use Rattle.book.specs.declared.types.BookFault.TheVariants.{RuleBroken}
 use Rattle.book.proofs.Asking.{held_more, newly}
@@ -122,23 +122,33 @@ module _ (l : Ledger) (words : List ℕ) where
         unchanged = λ e h. never (cc);
       }
 
--- the pair at place k, if there is one, keeps the rules within the relation
-abbrev pub Stands : List Row → List ℕ → ℕ → Type 0
-Stands rows words k = k < length rows * length rows → Keeps rows (related (length rows) words) (k / length rows) (k % length rows)
-
 -- going through a relation, pair by pair
 module _ (rows : List Row) (words : List ℕ) (some : 0 < length rows) where
   at_pair : (a b : ℕ) → a < length rows → b < length rows → Stands rows words (a * length rows + b) → Keeps rows (related (length rows) words) a b
-  at_pair a b a< b< h = subst₂ (Keeps rows (related (length rows) words)) (place_div (length rows) a b b<) (place_mod (length rows) a b b<) (h (mul-add-lt a (length rows) b (length rows) a< b<))
+  at_pair a b a< b< h = subst₂ (Keeps rows (related (length rows) words)) (place_div (length rows) a b b<) (place_mod (length rows) a b b<) (h.keeps (mul-add-lt a (length rows) b (length rows) a< b<))
 
-  pub all_keep : ((k : ℕ) → member words k ≡ true → Stands rows words k) → Closed rows (related (length rows) words)
+  all_keep : ((k : ℕ) → member words k ≡ true → Stands rows words k) → Closed rows (related (length rows) words)
   all_keep each a b h = let (a<, b<, on) = between_parts (length rows) (member words) a b h in at_pair a b a< b< (each (a * length rows + b) on)
 
-  pub first_breaks : (k : ℕ) → k < length rows * length rows → member words k ≡ true → (Stands rows words k → ⊥) → ((j : ℕ) → j < k → member words j ≡ true → Stands rows words j) → Breaks rows words (k / length rows) (k % length rows)
+  first_breaks : (k : ℕ) → k < length rows * length rows → member words k ≡ true → (Stands rows words k → ⊥) → ((j : ℕ) → j < k → member words j ≡ true → Stands rows words j) → Breaks rows words (k / length rows) (k % length rows)
   first_breaks k low on broken before = record {
     has = between_from (length rows) (member words) (k / length rows) (k % length rows) (div_below k (length rows) (length rows) some low) (mod_below k (length rows) some) (subst (λ x. member words x ≡ true) (sym (div-add-mod' k (length rows))) on);
-    broken = λ keeps. broken (λ _. keeps);
+    broken = λ keeps. broken (record { keeps = λ _. keeps });
     lowest = λ a b less h.
         let (a<, b<, there) = between_parts (length rows) (member words) a b h in
         at_pair a b a< b< (before (a * length rows + b) (subst (λ x. a * length rows + b < x) (div-add-mod' k (length rows)) less) there);
   }
+
+  -- the lowest place of a pair that breaks the rules, if there is one
+  abbrev Found : Option ℕ → Type 0
+  Found r = MatchOption r ((k : ℕ) → member words k ≡ true → Stands rows words k) (λ x. (member words x ≡ true) × (Stands rows words x → ⊥) × ((k : ℕ) → k < x → member words k ≡ true → Stands rows words k))
+
+  pub none_found : {r : Option ℕ} → Found r → r ≡ None → Closed rows (related (length rows) words)
+  none_found found e = all_keep (subst Found e found)
+
+  pub first_found : {r : Option ℕ} (k : ℕ) (pair : Option (ℕ × ℕ)) → Found r → r ≡ Some k → pair ≡ pair_of (length rows) k → MatchOption pair (Closed rows (related (length rows) words)) (λ p. Breaks rows words p.0 p.1)
+  first_found k None found e at = let (on, broken, before) = subst Found e found in absurd (broken (record { keeps = λ low. absurd (pair_none (length rows) k (sym at) low) }))
+  first_found k (Some pair) found e at =
+      let (on, broken, before) = subst Found e found in
+      let (low, first, second) = pair_parts (length rows) k pair (sym at) in
+      subst₂ (Breaks rows words) (sym first) (sym second) (first_breaks k low on broken before)

@@ -1,5 +1,5 @@
 -- Relations between the rows of a table, as a caller hands them over in 64-bit numbers. Assumes nothing.
-use Rattle.std.specs.Prelude.{◌≡◌, ℕ, ◌+◌, ◌-◌, ◌*◌, ◌/◌, ◌<◌, ◌≤◌, true, false, List, length}
+use Rattle.std.specs.Prelude.{◌≡◌, ℕ, ◌+◌, ◌-◌, ◌*◌, ◌/◌, ◌%◌, ◌<◌, ◌≤◌, true, false, List, length}
 use Rattle.sets.specs.Sets.{member, word}
 use Rattle.forms.specs.declared.Row.{Row}
 use Rattle.schema.specs.Rules.{Keeps, Closed}
@@ -24,3 +24,7 @@ pub record Breaks (rows : List Row) (words : List ℕ) (p q : ℕ) : Type 0 wher
   pub has : related (length rows) words p q ≡ true
   pub broken : Keeps rows (related (length rows) words) p q → ⊥
   pub lowest : (a b : ℕ) → a * length rows + b < p * length rows + q → related (length rows) words a b ≡ true → Keeps rows (related (length rows) words) a b
+
+-- the pair at place k, if there is one, keeps the rules within the relation
+pub record Stands (rows : List Row) (words : List ℕ) (k : ℕ) : Type 0 where
+  pub keeps : k < length rows * length rows → Keeps rows (related (length rows) words) (k / length rows) (k % length rows)

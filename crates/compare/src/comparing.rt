@@ -147,6 +147,7 @@ pub(crate) fn compared(
     check_both(&first, &second)?;
     let pair = numbers(p, q, &first, &second)?;
     let turned = t != 0;
+    // As it is: two arms with one call, since the source in each is of another type.
     if turned {
         let second = Turned { source: second };
         ask(Joined { first, second }, pair, buffer)

@@ -14,7 +14,7 @@ use faults::CompareFault;
 
 // Whether every order that fits row p of our table fits row q of theirs, which is turned unless t is 0. The tables are
 // texts. At a no the buffer begins with the text of an order that fits the one and not the other; else it stays.
-// As it is: t is the number of the C call, so that both contracts name the joined table by the same definition.
+// As it is: t is a number, as in the C call, since a `bool` would ask more of those who hand it over.
 pub fn question(
     ours: &[u8],
     theirs: &[u8],

@@ -31,6 +31,7 @@ impl Error for JoinFault {}
 impl fmt::Display for CompareFault {
     fn fmt<W: fmt::Write>(&self, f: &mut fmt::Formatter<W>) -> fmt::Result {
         let code = self.code();
+        // As it is: two arms with one text, since the fault in each is of another type.
         match self {
             CompareFault::Text(side, fault) => write!(f, "no answer: {side} table: {fault}"),
             CompareFault::Admission(side, fault) => write!(f, "no answer: {side} table: {fault}"),

@@ -15,13 +15,9 @@ fn read(text: &[u8]) -> Result<usize, ReadFault> {
 fn repeated(heap: Global, part: &[u8], times: usize, end: &[u8]) -> Result<Vec<u8>, AllocError> {
     let mut text = Vec::new(heap);
     for _ in 0..times {
-        for byte in part {
-            text.push(*byte)?;
-        }
+        text.extend_from_slice(part)?;
     }
-    for byte in end {
-        text.push(*byte)?;
-    }
+    text.extend_from_slice(end)?;
     Ok(text)
 }
 

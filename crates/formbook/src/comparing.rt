@@ -14,6 +14,7 @@ use std::io::Write;
 use texts::RowText;
 
 // Which rows the addresses in an order are of: ours, or theirs, whose numbers rise by the count of ours.
+// As it is: printed, since a wrapper of the nodes and the count with Display would be made at this one place.
 fn print_addresses(rt: &HostRuntime, nodes: &[Node], ours: usize) -> anyhow::Result<()> {
     for node in nodes {
         if let Node::Reference(row) = node {

@@ -82,11 +82,7 @@ fn batch(rt: &HostRuntime, path: &str) -> Result<(), Fault> {
 }
 
 fn main(rt: HostRuntime) -> anyhow::Result<()> {
-    let given = env::args(&rt)?;
-    let mut owned = Vec::new(rt.alloc());
-    for word in given.skip(1) {
-        owned.push(word)?;
-    }
+    let owned: Vec<String> = env::args(&rt)?.skip(1).collect(rt.alloc())?;
     let words: Vec<&str> = owned.iter().map(|word| word.as_str()).collect(rt.alloc())?;
     let ran = match words.as_slice() {
         ["batch", path] => batch(&rt, path),

@@ -33,7 +33,7 @@ pub(crate) fn print_tree(rt: &HostRuntime, nodes: &[Node], indent: usize) -> any
 }
 
 // A node of a table, without an end of line.
-// As it is: the type is another crate's, so Display for it would stand there, and these words are this program's alone.
+// As it is: printed, since a wrapper of a number and a node with Display would be made at each call to be printed once.
 pub(crate) fn print_node(rt: &HostRuntime, k: usize, node: Node) -> anyhow::Result<()> {
     match node {
         Node::Void => print!(rt; "node {k}: void")?,

@@ -1,8 +1,10 @@
-// Rows and refusals in words.
+// Rows and sets in words.
+// As it is: functions print them, since Display would stand at each type in another crate, or at a wrapper of this one, which
+// would have all that is said as its fields, and would be made at each call to be printed once.
 use forms::{Capability, Row};
 use sets::Members;
 
-// As it is: the type is another crate's, so Display for it would stand there, and these words are this program's alone.
+// What an address with the capability is for.
 fn capability_word(capability: Capability) -> &'static str {
     match capability {
         Capability::In => "to receive from (in)",
@@ -38,7 +40,7 @@ fn print_labels(rt: &HostRuntime, labels: u64) -> anyhow::Result<()> {
     print_members(rt, &[labels], "labels ", "no label")
 }
 
-// As it is: the type is another crate's, so Display for it would stand there, and these words are this program's alone.
+// A row, without an end of line.
 pub(crate) fn print_row(rt: &HostRuntime, row: Row) -> anyhow::Result<()> {
     match row {
         Row::Void => print!(rt; "void: the empty document")?,

@@ -19,15 +19,15 @@ struct Line<'a> {
 }
 
 fn call_lines<'a>(heap: Global, script: &'a str) -> Result<Vec<Line<'a>>, AllocError> {
-    let mut lines = Vec::new(heap);
-    for (k, line) in script.lines().enumerate() {
-        let text = line.trim();
-        if !text.is_empty() && !text.starts_with("#") {
-            let number = k.saturating_add(1);
-            lines.push(Line { number, text })?;
-        }
-    }
-    Ok(lines)
+    script
+        .lines()
+        .enumerate()
+        .map(|(k, line)| Line {
+            number: k.saturating_add(1),
+            text: line.trim(),
+        })
+        .filter(|line| !line.text.is_empty() && !line.text.starts_with("#"))
+        .collect(heap)
 }
 
 // A script by its path: its lines, and what reads them.

@@ -66,6 +66,12 @@ fn read_length(word: &str) -> Result<usize, Unread> {
     }
 }
 
+fn read_number(word: &str) -> Result<u64, Unread> {
+    u64::from_str_radix(word, 16).map_err(|_| Unread::Wanted(
+        "64-bit numbers in hexadecimal digits",
+    ))
+}
+
 // The text that a word stands for: - is the empty order.
 pub(crate) fn order_text(word: &str) -> &str {
     if word == "-" { "" } else { word }
@@ -110,6 +116,7 @@ pub(crate) struct Reader {
 
 impl Reader {
     // How many numbers a relation between the rows fills.
+    // As it is: the book's own function for it asks that the count is no more than a table has, which no public function may.
     fn relation_length(&self) -> usize {
         self.count.saturating_mul(self.count).div_ceil(sets::WORD)
     }
@@ -136,14 +143,10 @@ impl Reader {
     }
 
     fn read_numbers(&self, words: &[&str]) -> Result<Vec<u64>, Unread> {
-        let mut numbers = Vec::new(self.heap);
-        for word in words {
-            let number = u64::from_str_radix(word, 16).map_err(|_| Unread::Wanted(
-                "64-bit numbers in hexadecimal digits",
-            ))?;
-            numbers.push(number)?;
-        }
-        Ok(numbers)
+        words
+            .iter()
+            .map(|word| read_number(word))
+            .try_collect(self.heap)
     }
 
     // Every bit of the buffer is set, so that what is read in it was written by the call.
@@ -156,16 +159,23 @@ impl Reader {
         Ok(Call::HandOut(vec![in self.heap; u64::MAX; length]?))
     }
 
+    // How many nodes an order that is shown has at most.
+    // As it is: `showing::most_nodes` is of a prepared table, and here its count of rows alone is known.
+    fn most_nodes(&self) -> usize {
+        self.count.saturating_mul(self.count.saturating_add(1))
+    }
+
     fn read_show(&self, words: &[&str]) -> Result<Call, Unread> {
-        let (pair, length) = match words {
-            [p, q] => (
-                (read_row(p)?, read_row(q)?),
-                self.count.saturating_mul(self.count.saturating_add(1)),
-            ),
-            [p, q, word] => ((read_row(p)?, read_row(q)?), read_length(word)?),
+        let (p, q, more) = match words {
+            [p, q, more @ ..] if more.len() < 2 => (p, q, more),
             _ => {
                 return Err(Unread::Wanted("two row numbers, and if need be a number of nodes"));
             }
+        };
+        let pair = (read_row(p)?, read_row(q)?);
+        let length = match more.first() {
+            Some(word) => read_length(word)?,
+            None => self.most_nodes(),
         };
         Ok(Call::Show(pair, vec![in self.heap; Node::Void; length]?))
     }

@@ -1,4 +1,6 @@
 // What a book answers to a call, in words.
+// As it is: functions print it, since a wrapper with Display for each sort of answer would have the call, the answer and the
+// count of rows as its fields, and would be made once to be printed once.
 use super::faults::Fault;
 use super::{ordering, phrases};
 use anyhow::anyhow;
@@ -19,7 +21,6 @@ fn print_new(rt: &HostRuntime, new: usize) -> anyhow::Result<()> {
     Ok(())
 }
 
-// As it is: the type is another crate's, so Display for it would stand there, and these words are this program's alone.
 fn print_verdict(rt: &HostRuntime, pair: (u8, u8), verdict: Verdict) -> anyhow::Result<()> {
     let (p, q) = pair;
     match verdict {

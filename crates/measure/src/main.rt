@@ -175,22 +175,27 @@ fn looking_up(rt: &HostRuntime, book: &Book<RowText>) -> anyhow::Result<u128> {
     kept(rt, looked)
 }
 
+// Does something with each pair of as many rows as a table can have.
+fn each_pair<F: FnMut((u8, u8)) -> anyhow::Result<()>>(mut step: F) -> anyhow::Result<()>
+    requires { F.IsAlwaysCallable step }
+{
+    for k in 0..MAX_ROWS * MAX_ROWS {
+        step(((k / MAX_ROWS) as u8, (k % MAX_ROWS) as u8))?;
+    }
+    Ok(())
+}
+
 // The slowest of the first asks of all pairs of a table, each on an empty book.
 fn slowest(rt: &HostRuntime, book: &mut Book<RowText>) -> anyhow::Result<(u128, (u8, u8))> {
-    let mut worst = 0u128;
-    let mut at = (0u8, 0u8);
-    for p in 0..MAX_ROWS as u8 {
-        for q in 0..MAX_ROWS as u8 {
-            match asking(rt, book, (p, q))? {
-                Some(nanos) if nanos > worst => {
-                    worst = nanos;
-                    at = (p, q);
-                }
-                _ => (),
-            }
+    let mut worst = (0u128, (0u8, 0u8));
+    each_pair(|pair| {
+        match asking(rt, book, pair)? {
+            Some(nanos) if nanos > worst.0 => worst = (nanos, pair),
+            _ => (),
         }
-    }
-    Ok((worst, at))
+        Ok(())
+    })?;
+    Ok(worst)
 }
 
 // Making a book over a table, its slowest ask, an ask that is settled, and a look-up.
@@ -210,34 +215,32 @@ fn books(rt: &HostRuntime, path: &str) -> anyhow::Result<()> {
 }
 
 // Asks all pairs of a table, to be run with little stack; answers how many are yes.
-fn ask_all(book: &mut Book<RowText>) -> usize {
+fn ask_all(book: &mut Book<RowText>) -> anyhow::Result<usize> {
     let mut yes = 0usize;
-    for p in 0..MAX_ROWS as u8 {
-        for q in 0..MAX_ROWS as u8 {
-            if let Ok((Verdict::Yes, _)) = book.ask((p, q)) {
-                yes = yes.saturating_add(1);
-            }
+    each_pair(|pair| {
+        if let Ok((Verdict::Yes, _)) = book.ask(pair) {
+            yes = yes.saturating_add(1);
         }
-    }
-    yes
+        Ok(())
+    })?;
+    Ok(yes)
 }
 
 // Shows an order for each no of a table, to be run with little stack; answers how many nodes they have together.
-fn show_all(book: &Book<RowText>) -> usize {
+fn show_all(book: &Book<RowText>) -> anyhow::Result<usize> {
     let mut nodes = [Node::Void; MAX_NODES];
     let mut count = 0usize;
-    for p in 0..MAX_ROWS as u8 {
-        for q in 0..MAX_ROWS as u8 {
-            if let Ok(some) = book.show((p, q), &mut nodes) {
-                count = count.saturating_add(some);
-            }
+    each_pair(|pair| {
+        if let Ok(some) = book.show(pair, &mut nodes) {
+            count = count.saturating_add(some);
         }
-    }
-    count
+        Ok(())
+    })?;
+    Ok(count)
 }
 
 // All asks of the book over a table, and then what is handed in, to be run with little stack.
-fn stack_book<F: FnOnce(&Book<RowText>) -> usize>(
+fn stack_book<F: FnOnce(&Book<RowText>) -> anyhow::Result<usize>>(
     rt: &HostRuntime,
     word: &str,
     path: &str,
@@ -247,8 +250,8 @@ fn stack_book<F: FnOnce(&Book<RowText>) -> usize>(
 {
     let bytes = fs::read(rt, path)?;
     let mut book = Book::new(RowText::new(&bytes));
-    let yes = ask_all(&mut book);
-    let shown = then(&book);
+    let yes = ask_all(&mut book)?;
+    let shown = then(&book)?;
     println!(rt; "{word}: {yes} {shown}")?;
     Ok(())
 }
@@ -314,24 +317,31 @@ fn element(inside: u16, following: u16) -> Node {
     }
 }
 
-// One reading or writing of a document of 4,160 nodes, to be run with little stack.
-fn stack(rt: &HostRuntime, word: &str) -> anyhow::Result<()> {
-    let mut nodes = [Node::Void; MAX_NODES];
+// Reads a document of 4,160 nodes.
+fn read_row(rt: &HostRuntime, nodes: &mut [Node]) -> anyhow::Result<usize> {
+    let text = repeated(rt, "1[],", 4158, "1[]")?;
+    Ok(read_document(text.as_bytes(), nodes).unwrap_or(0))
+}
+
+// Writes a document of 4,160 nodes, each of which but the first is made of the number of the one before.
+fn write_chain<F: Fn(u16) -> Node>(nodes: &mut [Node], after: F) -> anyhow::Result<usize>
+    requires { F.IsAlwaysCallable after }
+{
     let mut buffer = [0u8; MAX_DOCUMENT];
-    let length = match word {
-        "stack-read" => {
-            let text = repeated(rt, "1[],", 4158, "1[]")?;
-            read_document(text.as_bytes(), &mut nodes).unwrap_or(0)
-        }
-        "stack-row" => {
-            chain(&mut nodes, |before| element(0, before));
-            write_document(&nodes, MAX_NODES - 1, &mut buffer).unwrap_or(0)
-        }
-        _ => {
-            chain(&mut nodes, |before| element(before, 0));
-            write_document(&nodes, MAX_NODES - 1, &mut buffer).unwrap_or(0)
-        }
-    };
+    chain(nodes, after);
+    Ok(write_document(nodes, MAX_NODES - 1, &mut buffer).unwrap_or(0))
+}
+
+// The reading or writing of a document that is handed in, to be run with little stack.
+fn stack<F: FnOnce(&mut [Node]) -> anyhow::Result<usize>>(
+    rt: &HostRuntime,
+    word: &str,
+    step: F,
+) -> anyhow::Result<()>
+    requires { F.IsAlwaysCallable step }
+{
+    let mut nodes = [Node::Void; MAX_NODES];
+    let length = step(&mut nodes)?;
     println!(rt; "{word}: {length}")?;
     Ok(())
 }
@@ -354,7 +364,7 @@ fn run(rt: &HostRuntime, words: &[&str]) -> anyhow::Result<()> {
     match words {
         ["books", paths @ ..] => each(rt, paths, |rt, path| books(rt, path)),
         ["stack-ask", paths @ ..] => each(rt, paths, |rt, path| {
-            stack_book(rt, "stack-ask", path, |_| 0)
+            stack_book(rt, "stack-ask", path, |_| Ok(0))
         }),
         ["stack-show", paths @ ..] => each(rt, paths, |rt, path| {
             stack_book(rt, "stack-show", path, show_all)
@@ -362,7 +372,13 @@ fn run(rt: &HostRuntime, words: &[&str]) -> anyhow::Result<()> {
         ["verdicts", paths @ ..] => each(rt, paths, |rt, path| verdicts(rt, path)),
         ["rows", ..] => rows(rt),
         ["documents", ..] => documents(rt),
-        [word @ ("stack-read" | "stack-row" | "stack-deep"), ..] => stack(rt, word),
+        ["stack-read", ..] => stack(rt, "stack-read", |nodes| read_row(rt, nodes)),
+        ["stack-row", ..] => stack(rt, "stack-row", |nodes| {
+            write_chain(nodes, |before| element(0, before))
+        }),
+        ["stack-deep", ..] => stack(rt, "stack-deep", |nodes| {
+            write_chain(nodes, |before| element(before, 0))
+        }),
         _ => {
             println!(rt;
                 "measure rows | documents | verdicts TABLE... | books TABLE... | stack-read | stack-row | stack-deep | stack-ask TABLE... | stack-show TABLE..."
@@ -373,10 +389,7 @@ fn run(rt: &HostRuntime, words: &[&str]) -> anyhow::Result<()> {
 }
 
 fn main(rt: HostRuntime) -> anyhow::Result<()> {
-    let mut owned = Vec::new(rt.alloc());
-    for word in env::args(&rt)?.skip(1) {
-        owned.push(word)?;
-    }
+    let owned: Vec<String> = env::args(&rt)?.skip(1).collect(rt.alloc())?;
     let words: Vec<&str> = owned.iter().map(|word| word.as_str()).collect(rt.alloc())?;
     run(&rt, &words)
 }

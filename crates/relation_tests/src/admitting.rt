@@ -6,10 +6,7 @@ use relation::AdmissionFault;
 use relation::admission::{admit, meets};
 
 fn fault(rows: &[Row]) -> Option<AdmissionFault> {
-    match admit(&RowBuffer::new(rows)) {
-        Ok(_) => None,
-        Err(fault) => Some(fault),
-    }
+    admit(&RowBuffer::new(rows)).err()
 }
 
 fn element(labels: u64, inside: u8, following: u8) -> Row {

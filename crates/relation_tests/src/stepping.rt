@@ -21,22 +21,17 @@ impl Rule for Ring {
 fn whole_rings_stay(rt: HostRuntime) {
     let mut set = [0x00ff_7fff_0000_01ff, 0, 0xff00_0000_0000_0080];
     narrow(&Ring, &mut set);
-    assert!(rt;
-        set.len() == 3
-            && set[0] == 0x00ff_00ff_0000_00ff
-            && set[1] == 0
-            && set[2] == 0xff00_0000_0000_0000
-    );
+    assert_eq!(rt; set, [0x00ff_00ff_0000_00ff, 0, 0xff00_0000_0000_0000]);
 }
 
 #[test]
 fn nothing_or_all_stays(rt: HostRuntime) {
     let mut broken = [0xfefe_fefe_fefe_fefe; 2];
     narrow(&Ring, &mut broken);
-    assert!(rt; broken.len() == 2 && broken[0] == 0 && broken[1] == 0);
+    assert_eq!(rt; broken, [0, 0]);
     let mut full = [0xffff_ffff_ffff_ffff];
     narrow(&Ring, &mut full);
-    assert!(rt; full.len() == 1 && full[0] == 0xffff_ffff_ffff_ffff);
+    assert_eq!(rt; full, [0xffff_ffff_ffff_ffff]);
 }
 
 #[test]

@@ -23,7 +23,7 @@ pub enum Call {
     Clear,
 }
 
-#[derive(Drop)]
+#[derive(PartialEq, Eq, Debug, Drop)]
 pub enum Answer {
     Asked(Result<(Verdict, usize), BookFault>),
     Offered(Result<usize, BookFault>),

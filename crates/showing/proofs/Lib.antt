@@ -8,3 +8,4 @@ pub mod Complete
 pub mod Drawing
 pub mod Questions
 pub mod Lacking
+pub mod Lowest

@@ -1,7 +1,7 @@
 // An order that fits one row of a prepared table and not another.
 #![tactic(auto)]
 
-ghost use Rattle.std.specs.Prelude.{◌+◌, ◌*◌, ◌<◌, ◌≤◌, Decides};
+ghost use Rattle.std.specs.Prelude.{◌≡◌, ◌+◌, ◌*◌, ◌<◌, ◌≤◌, Decides};
 ghost use Rattle.showing.specs.Showing.{Shown};
 ghost use Rattle.verdicts.specs.Tables.{rows_in, count_in};
 
@@ -12,12 +12,19 @@ use verdicts::prepared::Prepared;
 
 mod drawn;
 
-// Whether it is a pair of rows, and the room is enough for one node a row and one a pair.
+// How many nodes an order that is shown of a table has at most: one a row and one a pair of rows.
+pub fn most_nodes(prepared: &Prepared) -> usize
+    ensures { result ≡ count_in prepared.now * (count_in prepared.now + 1) }
+{
+    let n = prepared.count();
+    n * (n + 1)
+}
+
+// Whether it is a pair of rows, and the room is enough for as many nodes as there can be.
 fn askable(prepared: &Prepared, pair: (u8, u8), room: usize) -> bool
     ensures { Decides result ((pair.0 < count_in prepared.now) × (pair.1 < count_in prepared.now) × (count_in prepared.now * (count_in prepared.now + 1) ≤ room)) }
 {
-    let n = prepared.count();
-    (pair.0 as usize) < n && (pair.1 as usize) < n && n * (n + 1) <= room
+    prepared.place(pair).is_some() && most_nodes(prepared) <= room
 }
 
 // Writes an order that fits the first row of a pair and not the second, as a table of nodes whose last is its root, and answers how many nodes it has.
@@ -25,7 +32,6 @@ fn askable(prepared: &Prepared, pair: (u8, u8), room: usize) -> bool
 pub fn show(prepared: &Prepared, pair: (u8, u8), nodes: &mut [Node]) -> Option<usize>
     ensures { Shown (rows_in prepared.now) pair.0 pair.1 nodes.old nodes.new result }
 {
-    let n = prepared.count();
     if !askable(prepared, pair, nodes.len()) {
         return None;
     }

@@ -11,14 +11,13 @@ const TABLE: &[u8] =
     b"V,,,\nE,0000000000000002,0,0\nE,0000000000000006,0,0\nC,o,1,\nC,o,2,\nC,b,1,\nE,0000000000000002,0,6\nN,,,\nU,,0,9\nE,0000000000000002,0,8\nE,0000000000000008,2,3\nE,0000000000000008,1,3\n";
 
 // Whether the last of the first k nodes is written as that text.
+// As it is: the tests of books have the same, since a crate of tests hands nothing to another.
 fn check_text(rt: &impl Abort, nodes: &[Node], k: usize, text: &[u8]) -> Result<(), Fail> {
     if k == 0 || k > nodes.len() {
         return Err(Fail::new("there are no such nodes"));
     }
     let mut buffer = [0; 64];
-    let Ok(length) = write_document(&nodes[..k], k - 1, &mut buffer) else {
-        return Err(Fail::new("the order cannot be written"));
-    };
+    let length = write_document(&nodes[..k], k - 1, &mut buffer)?;
     if length > 64 {
         return Err(Fail::new("the text is too long"));
     }
@@ -36,9 +35,7 @@ fn check_shown(rt: &impl Abort, table: &Prepared, pair: (u8, u8), text: &[u8]) -
 
 #[test]
 fn shown(rt: HostRuntime) -> Result<(), Fail> {
-    let Ok(table) = Prepared::of(&RowText::new(TABLE)) else {
-        return Err(Fail::new("the table is not admitted"));
-    };
+    let table = Prepared::of(&RowText::new(TABLE))?;
     check_shown(&rt, &table, (2, 1), b"2[]")?;
     check_shown(&rt, &table, (8, 9), b"")?;
     check_shown(&rt, &table, (3, 5), b"@3")?;
@@ -49,9 +46,7 @@ fn shown(rt: HostRuntime) -> Result<(), Fail> {
 // The table has 12 rows, so 156 nodes are room enough.
 #[test]
 fn not_shown(rt: HostRuntime) -> Result<(), Fail> {
-    let Ok(table) = Prepared::of(&RowText::new(TABLE)) else {
-        return Err(Fail::new("the table is not admitted"));
-    };
+    let table = Prepared::of(&RowText::new(TABLE))?;
     let mut few = [Node::Void; 155];
     let mut enough = [Node::Void; 156];
     assert!(rt; show(&table, (1, 2), &mut enough).is_none());

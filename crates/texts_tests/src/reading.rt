@@ -24,10 +24,8 @@ fn refused(rt: &impl Abort, text: &[u8], fault: TextFault) -> Result<(), Fail> {
 
 // The line repeated until the text is full.
 fn fill(line: &[u8], text: &mut [u8]) {
-    if line.len() > 0 {
-        for (i, byte) in text.iter_mut().enumerate() {
-            *byte = line[i % line.len()];
-        }
+    for (byte, filling) in text.iter_mut().zip(line.iter().cycle()) {
+        *byte = *filling;
     }
 }
 

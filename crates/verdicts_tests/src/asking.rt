@@ -13,9 +13,7 @@ pub(crate) fn ask_all(
     kept: bool,
     asks: &[((u8, u8), bool, usize)],
 ) -> Result<(), Fail> {
-    let Ok(table) = Prepared::of(&RowText::new(text)) else {
-        return Err(Fail::new("the table is not admitted"));
-    };
+    let table = Prepared::of(&RowText::new(text))?;
     let verdicts = table.verdicts();
     let mut known = [0; PAIR_WORDS];
     for (pair, yes, count) in asks.iter().copied() {

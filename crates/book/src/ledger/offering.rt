@@ -1,5 +1,5 @@
 // Opening, clearing, and taking in relations that others found.
-ghost use Rattle.std.specs.Prelude.{◌≡◌, ℕ, ◌*◌, ◌≤◌, false, length, MatchOption};
+ghost use Rattle.std.specs.Prelude.{◌≡◌, ℕ, ◌*◌, ◌≤◌, false, length, Decides, MatchOption};
 ghost use Rattle.forms.specs.Refusals.Outcome.{gives};
 ghost use Rattle.sets.specs.Sets.{member};
 ghost use Rattle.schema.specs.Rules.{Closed};
@@ -9,7 +9,7 @@ ghost use Rattle.book.specs.Calls.Call.{offer, clear as wipe};
 ghost use Rattle.book.specs.Doing.{Done};
 ghost use Rattle.book.specs.Faults.{outcome};
 ghost use Rattle.book.specs.Ledgers.{ledger_rows, holds};
-ghost use Rattle.book.specs.Relations.{Breaks};
+ghost use Rattle.book.specs.Relations.{Breaks, Stands};
 
 use super::super::types::BookFault;
 use super::Ledger;
@@ -42,18 +42,21 @@ impl Ledger {
         self.settled = [0; PAIR_WORDS];
     }
 
+    // Whether the pair at a place, if there is one, keeps the rules within a relation.
+    fn stands(&self, place: usize, relation: &[u64]) -> bool
+        ensures { Decides result (Stands (ledger_rows self.now) relation.now place) }
+    {
+        self.prepared
+            .pair_at(place)
+            .is_none_or(|pair| self.prepared.keeps(pair, relation))
+    }
+
     // The lowest pair of a relation that breaks the rules within it.
     fn breaking(&self, relation: &[u64]) -> Option<(u8, u8)>
         ensures { MatchOption result (Closed (ledger_rows self.now) (related (length (ledger_rows self.now)) relation.now)) (λ pair. Breaks (ledger_rows self.now) relation.now pair.0 pair.1) }
     {
-        for k in Members::of(relation) {
-            if let Some(pair) = self.prepared.pair_at(k) {
-                if !self.prepared.keeps(pair, relation) {
-                    return Some(pair);
-                }
-            }
-        }
-        None
+        let k = Members::of(relation).find(|k| !self.stands(*k, relation))?;
+        self.prepared.pair_at(k)
     }
 
     // Holds the pairs of a relation as yes, if it is well shaped and they keep the rules within it, and answers how many are new.

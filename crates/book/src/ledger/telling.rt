@@ -32,10 +32,7 @@ impl Ledger {
     pub(crate) fn in_table(&self, pair: (u8, u8)) -> Result<(), BookFault>
         ensures { MatchResult result (λ _. InTable (ledger_rows self.now) pair.0 pair.1) (λ e. (e ≡ RowOutside) × (InTable (ledger_rows self.now) pair.0 pair.1 → ⊥)) }
     {
-        let n = self.prepared.count();
-        if pair.0 as usize >= n || pair.1 as usize >= n {
-            return Err(BookFault::RowOutside);
-        }
+        self.prepared.place(pair).ok_or(BookFault::RowOutside)?;
         Ok(())
     }
 

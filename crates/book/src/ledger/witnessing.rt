@@ -4,7 +4,7 @@ ghost use Rattle.book.specs.Calls.Call.{show};
 ghost use Rattle.book.specs.Doing.{Done};
 ghost use Rattle.book.specs.Faults.{outcome};
 
-use super::super::types::BookFault;
+use super::super::types::{BookFault, Verdict};
 use super::Ledger;
 use documents::nodes::Node;
 use showing;
@@ -14,15 +14,10 @@ impl Ledger {
     pub(crate) fn show(&self, pair: (u8, u8), nodes: &mut [Node]) -> Result<usize, BookFault>
         ensures { Done self.now (show pair.0 pair.1 nodes.old) (shown (outcome result) nodes.new) self.now }
     {
-        self.in_table(pair)?;
-        if !self.prepared.relates(&self.held, pair.0, pair.1) {
+        if self.look_up(pair)? != Some(Verdict::No) {
             return Err(BookFault::NotHeldAsNo);
         }
-        if self.prepared.relates(&self.yes, pair.0, pair.1) {
-            return Err(BookFault::NotHeldAsNo);
-        }
-        let n = self.prepared.count();
-        if nodes.len() < n * (n + 1) {
+        if nodes.len() < showing::most_nodes(&self.prepared) {
             return Err(BookFault::FewNodes);
         }
         Ok(showing::show(&self.prepared, pair, nodes).unwrap())

@@ -23,7 +23,6 @@ draw-requires c =
     let rows = rows_of c.args.prepared.now.table in
     let p = c.args.pair.0 in
     let q = c.args.pair.1 in
-    let n = c.count-n.result in
     let (p<, q<, room) = c.askable.ensures.0 c.if-not-askable.false in
     record {
       leans = (c.leaned-leaned.ensures.leans p< q< p q).1 on_itself;
@@ -36,7 +35,6 @@ returns c =
     let rows = rows_of c.args.prepared.now.table in
     let p = c.args.pair.0 in
     let q = c.args.pair.1 in
-    let n = c.count-n.result in
     let (p<, q<, room) = c.askable.ensures.0 c.if-not-askable.false in
     let leans = (c.leaned-leaned.ensures.leans p< q< p q).1 on_itself in
     let apart : related (length rows) c.narrow.new.pairs p q ≡ true → ⊥ = λ h. both_ways c.relates.result c.if-relates.false (c.relates.ensures ∙ h) in (

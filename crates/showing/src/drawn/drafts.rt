@@ -15,11 +15,10 @@ use sets;
 use verdicts::prepared::Prepared;
 
 // The lowest label of a set.
-// As it is: `sets::next` would take a slice made of the word, and answer a place that is cast back to a label.
 fn lowest(labels: u64) -> Option<u8>
     ensures { result ≡ lowest labels }
 {
-    (labels != 0).then(|| labels.trailing_zeros() as u8)
+    Some(sets::next(&[labels], 0)? as u8)
 }
 
 // The node of an element that has a label and whose parts have nodes.
@@ -55,6 +54,15 @@ fn untaken(question: &Question, p: u8, q: u8) -> Option<u8>
         .find(|c| !prepared.takes_channel(below, *c, q))
 }
 
+// The place of a pair of rows, behind those of the rows.
+// As it is: a number, where `Prepared::place` gives an `Option`, since rows name rows, and no caller has another pair.
+pub(crate) fn place_of(prepared: &Prepared, pair: (u8, u8)) -> usize
+    ensures { result ≡ pair_place (count_in prepared.now) pair.0 pair.1 }
+{
+    let n = prepared.count();
+    n + (pair.0 as usize * n + pair.1 as usize)
+}
+
 // Whether k is the place, among those of the pairs, of a pair that the asked one leans on and that is not below.
 fn open(question: &Question, k: usize) -> bool
     ensures { Decides result ((k < length (rows_asked question.now) * length (rows_asked question.now)) × (member question.now.leaned.now k ≡ true) × (member question.now.below.now k ≢ true)) }
@@ -63,6 +71,8 @@ fn open(question: &Question, k: usize) -> bool
     k < n * n && sets::test(question.leaned, k) && !sets::test(question.below, k)
 }
 
+// As it is: the prepared table is handed on beside what is drawn, since a struct of the two would be made anew for each
+// draft, and each contract would name both of its parts.
 impl Drawn {
     // The node at a place, if there is one.
     pub(crate) fn node(&self, place: usize) -> Option<u16>
@@ -72,11 +82,10 @@ impl Drawn {
     }
 
     // The node of a pair of rows.
-    fn pair_node(&self, prepared: &Prepared, a: u8, b: u8) -> Option<u16>
-        ensures { result ≡ noted self.now.numbers (pair_place (count_in prepared.now) a b) }
+    fn pair_node(&self, prepared: &Prepared, pair: (u8, u8)) -> Option<u16>
+        ensures { result ≡ noted self.now.numbers (pair_place (count_in prepared.now) pair.0 pair.1) }
     {
-        let n = prepared.count();
-        self.node(n + (a as usize * n + b as usize))
+        self.node(place_of(prepared, pair))
     }
 
     // A node for an element row, with a label that is none of the others.
@@ -120,13 +129,13 @@ impl Drawn {
                 let label = lowest(labels & other);
                 element(
                     label,
-                    self.pair_node(prepared, parts.0, inside),
+                    self.pair_node(prepared, (parts.0, inside)),
                     self.node(parts.1 as usize),
                 )
                 .or(element(
                     label,
                     self.node(parts.0 as usize),
-                    self.pair_node(prepared, parts.1, following),
+                    self.pair_node(prepared, (parts.1, following)),
                 ))
             }
             _ => None,

@@ -5,6 +5,8 @@ ghost use Rattle.showing.specs.Drawing.{places, Holds, Visited, Rounded};
 ghost use Rattle.showing.specs.Questions.{rows_asked, leaned_in, below_in};
 ghost use Rattle.showing.specs.Showing.{Witnesses};
 
+use super::super::most_nodes;
+use super::drafts::place_of;
 use super::{Drawn, Question};
 use documents::nodes::{MAX_NODES, Node};
 
@@ -55,8 +57,7 @@ impl Drawn {
         requires holds { Holds (rows_asked question.now) (below_in question.now) nodes.old self.old.used self.old.numbers }
         ensures { Rounded (rows_asked question.now) (leaned_in question.now) (below_in question.now) but (places (rows_asked question.now)) nodes.old nodes.new self.old.used self.new.used self.old.numbers self.new.numbers }
     {
-        let n = question.prepared.count();
-        for k in 0..n * (n + 1) {
+        for k in 0..most_nodes(question.prepared) {
             if k != but {
                 self.visit(question, nodes, k);
             }
@@ -65,7 +66,6 @@ impl Drawn {
 }
 
 // Makes nodes until the pair has one, which is then the last.
-// As it is: the place is written out, since the pair is one of rows, and an `Option` would have a case that does not come.
 pub(crate) fn draw(question: &Question, pair: (u8, u8), nodes: &mut [Node]) -> usize
     requires leans { (leaned_in question.now) pair.0 pair.1 ≡ true }
     requires apart { (below_in question.now) pair.0 pair.1 ≢ true }
@@ -75,8 +75,7 @@ pub(crate) fn draw(question: &Question, pair: (u8, u8), nodes: &mut [Node]) -> u
     ensures rest { drop result nodes.new ≡ drop result nodes.old }
     ensures same { length nodes.new ≡ length nodes.old }
 {
-    let n = question.prepared.count();
-    let asked = n + (pair.0 as usize * n + pair.1 as usize);
+    let asked = place_of(question.prepared, pair);
     let mut drawn = Drawn::none();
     while !drawn.visit(question, nodes, asked) {
         drawn.round(question, nodes, asked);
