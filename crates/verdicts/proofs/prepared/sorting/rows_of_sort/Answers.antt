@@ -24,10 +24,10 @@ loop-o-preserved g c =
       | then-is_inhabited+then-passes w ↦ (
         ap length w.rows-is ∙ w.put.auto.words ∙ long,
         subst (λ cells. Picked Hit Miss cells (o + 1)) (sym w.rows-is)
-        (picked_put Hit Miss c.loop-o.rows w.put.new.words o so_far
-        (and_from (inhabited o) (g.test (slice_get rows o)) (sym c.is_inhabited.ensures ∙ w.if-is_inhabited.true)
-        (ap g.test (sym w.row.ensures) ∙ sym (c.requires.1.1 w.row.result w.passes.result w.passes.ensures) ∙ w.if-passes.true))
-        (w.put.ensures.within (omega (arith, long)) (omega arith))),
+            (picked_put Hit Miss c.loop-o.rows w.put.new.words o so_far
+            (and_from (inhabited o) (g.test (slice_get rows o)) (sym c.is_inhabited.ensures ∙ w.if-is_inhabited.true)
+            (ap g.test (sym w.row.ensures) ∙ sym (c.requires.1.1 w.row.result w.passes.result w.passes.ensures) ∙ w.if-passes.true))
+            (w.put.ensures.within (omega (arith, long)) (omega arith))),
       )
       | else-is_inhabited w ↦ (
         ap length w.rows-is ∙ long,
