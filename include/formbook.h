@@ -2,8 +2,8 @@
  * formbook: whether every order that fits a row of our table fits a row of theirs.
  *
  * Link with libcompare.a (tools/staticlib writes it to target/staticlib/). The call allocates nothing, keeps nothing,
- * and reads and writes only what it is given. It takes about 100 KiB of stack, and more where an order has brackets in
- * brackets to a great depth.
+ * and reads and writes only what it is given. It takes less than 160 KiB of stack, and more where an order has brackets
+ * in brackets to a great depth.
  */
 #ifndef FORMBOOK_H
 #define FORMBOOK_H
