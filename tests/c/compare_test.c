@@ -3,7 +3,7 @@
  * is made twice, on two different patterns in the buffer, and has guard bytes on both sides of it: what must stay is
  * compared byte for byte, and the answers must be equal.
  *
- *   compare_test FOLDER     FOLDER holds the example tables
+ *   compare_test TABLE...     each TABLE is a file of row text
  */
 #include "formbook.h"
 
@@ -187,22 +187,13 @@ struct text {
     size_t length;
 };
 
-static int load(struct text *text, const char *folder, const char *name) {
-    char path[1024];
-    FILE *file;
-    int written = snprintf(path, sizeof path, "%s/%s.rows", folder, name);
-    if (written < 0 || (size_t)written >= sizeof path) {
-        return 0;
-    }
-    file = fopen(path, "rb");
-    if (file == NULL) {
+static void load(struct text *text, const char *path) {
+    FILE *file = fopen(path, "rb");
+    if (file == NULL || (text->length = fread(text->bytes, 1, sizeof text->bytes, file)) == 0) {
         perror(path);
-        return 0;
+        exit(2);
     }
-    text->length = fread(text->bytes, 1, sizeof text->bytes, file);
-    written = ferror(file);
     fclose(file);
-    return written == 0 && text->length > 0;
 }
 
 /* Takes a byte away, puts one in, changes one, or cuts the text off. */
@@ -236,25 +227,17 @@ static void damage(struct text *text) {
     }
 }
 
-/* The example tables against one another, whole and damaged. */
-static int examples(const char *folder, unsigned long rounds) {
-    static const char *const names[] = {"ours", "alder", "birch", "cedar", "dogwood", "elm"};
-    enum { TABLES = sizeof names / sizeof names[0] };
-    static struct text tables[TABLES];
+/* The tables against one another, whole and damaged. */
+static void against_one_another(struct text *tables, size_t count, unsigned long rounds) {
     unsigned long seen[8] = {0};
     unsigned long k;
-    for (k = 0; k < TABLES; k++) {
-        if (!load(&tables[k], folder, names[k])) {
-            return 0;
-        }
-    }
     for (k = 0; k < rounds; k++) {
         static struct text ours, theirs;
         uint64_t times = next() % 3;
         size_t room = next() % 4 == 0 ? ROOM : (size_t)(next() % 40);
         uint64_t result;
-        ours = tables[next() % TABLES];
-        theirs = tables[next() % TABLES];
+        ours = tables[next() % count];
+        theirs = tables[next() % count];
         while (times-- > 0) {
             damage(next() % 2 == 0 ? &ours : &theirs);
         }
@@ -267,15 +250,22 @@ static int examples(const char *folder, unsigned long rounds) {
             failures++;
         }
     }
-    return 1;
 }
 
 int main(int argc, char **argv) {
-    worked();
-    limits();
-    if (!examples(argc > 1 ? argv[1] : "examples/tables", 4000)) {
+    enum { MOST = 16 };
+    static struct text tables[MOST];
+    int k;
+    if (argc < 2 || argc > MOST + 1) {
+        fprintf(stderr, "compare_test TABLE...: from 1 to %d tables are asked for\n", MOST);
         return 2;
     }
+    for (k = 1; k < argc; k++) {
+        load(&tables[k - 1], argv[k]);
+    }
+    worked();
+    limits();
+    against_one_another(tables, (size_t)argc - 1, 4000);
     printf("%lu calls of compare from C, %lu failures\n", calls, failures);
     return failures == 0 ? 0 : 1;
 }
