@@ -1,5 +1,5 @@
 -- Numbers, elements and lists of a right text, as the reader meets them. Assumes nothing.
-use Rattle.std.proofs.Common.{◌≡◌, ℕ, ◌+◌, ◌*◌, ◌/◌, ◌%◌, ◌<◌, ◌≤◌, ◌⊎◌, List, [], ◌∷◌, ◌++◌, length, get_or, take, drop, set, decimal, sym, refl, ap, ◌∙◌, subst, inl, inr, ⊎_elim, zero-add, arith, length-append}
+use Rattle.std.proofs.Common.{◌≡◌, ℕ, ◌+◌, ◌*◌, ◌%◌, ◌<◌, ◌≤◌, ◌⊎◌, List, [], ◌∷◌, ◌++◌, length, get_or, take, drop, set, decimal, sym, refl, ap, ◌∙◌, subst, inl, inr, ⊎_elim, zero-add, arith, length-append}
 use Rattle.std.proofs.Math.Seq.{take-length}
 use Rattle.std.proofs.lemmas.List.{append_assoc, append-nil}
 use Rattle.forms.specs.Limits.{max_rows}
@@ -12,13 +12,13 @@ use Rattle.documents.specs.declared.nodes.Node.TheVariants.{Void, Reference, Ele
 use Rattle.documents.specs.declared.reader.Reached.{Reached}
 use Rattle.documents.specs.Grammar.{comma_before, spelled_document, Small}
 use Rattle.documents.specs.Nodes.{size, root, nodes_from, nodes_for}
-use Rattle.documents.specs.Built.{NoDigit, Closing, Built, ReadsNumber, BuildsList, BuildsItem, BuildsText}
+use Rattle.documents.specs.Built.{NoDigit, Built, ReadsNumber, BuildsList, BuildsItem, BuildsText}
 use Rattle.std.proofs.Common.{◌-◌}
 use Rattle.forms.proofs.Findings.{never}
 use Rattle.documents.proofs.Tables.{length_nodes}
-use Rattle.documents.proofs.Texts.{closing_no_digit, element_bytes}
-use Rattle.texts.proofs.Numbers.{Figures, figures}
-use Rattle.texts.proofs.Numbers.Figures.{one, two}
+use Rattle.documents.proofs.Texts.{decimal_first, not_comma, closing_no_digit, element_bytes}
+use Rattle.forms.proofs.Decimals.{Figures, figures}
+use Rattle.forms.proofs.Decimals.Figures.{one, two}
 
 -- a text that is not empty is its first byte and the rest
 abbrev pub rest_of : List ℕ → List ℕ
@@ -34,11 +34,7 @@ parts e = (cc, cc)
 
 -- a number that a text begins with, by its digits
 pub number_none : (t : List ℕ) → ((b : ℕ) (s : List ℕ) → t ≡ b ∷ s → (d : ℕ) → d < 10 → b ≡ 48 + d → ⊥) → (m : ℕ) (rest : List ℕ) → ReadsNumber t m rest
-number_none t none m rest n tail h e plain = absurd (go (figures n h) e)
-  where
-    go : {f : List ℕ} → Figures n f → t ≡ f ++ tail → ⊥
-    go (one l) e = none _ _ e n l refl
-    go (two l g) e = none _ _ e (n / 10) g refl
+number_none t none m rest n tail h e plain = let (d, u, small, is) = decimal_first n h in absurd (none (48 + d) (u ++ tail) (e ∙ ap (λ x. x ++ tail) is) d small refl)
 
 pub number_one : (s : List ℕ) (b d : ℕ) → b ≡ 48 + d → ((c : ℕ) (u : List ℕ) → s ≡ c ∷ u → (e : ℕ) → e < 10 → c ≡ 48 + e → ⊥) → ReadsNumber (b ∷ s) d s
 number_one s b d is none n tail h e plain = go (figures n h) e
@@ -62,29 +58,19 @@ number_two s b c d e is is' small n tail h spelled plain = go (figures n h) spel
 first_byte : (d : Document) → Small d → comma_before d ≡ 44 ∷ [] → (s : List ℕ) → (b : ℕ) × (rest : List ℕ) × (spelled_document d ++ s ≡ b ∷ rest) × (b < 91)
 first_byte void h e s = never (cc)
 first_byte (reference n) h e s = (64, decimal n ++ s, refl, omega arith)
-first_byte (element x a b) h e s = go (figures x h.0) _ (element_bytes x a b s)
-  where
-    go : {f : List ℕ} → Figures x f → (u : List ℕ) → spelled_document (element x a b) ++ s ≡ f ++ u → (c : ℕ) × (rest : List ℕ) × (spelled_document (element x a b) ++ s ≡ c ∷ rest) × (c < 91)
-    go (one l) u e = (_, _, e, omega arith)
-    go (two l g) u e = (_, _, e, omega arith)
+first_byte (element x a b) h e s =
+    let (d, u, small, is) = decimal_first x h.0 in
+    let rest = 91 ∷ (spelled_document a ++ (93 ∷ (comma_before b ++ (spelled_document b ++ s)))) in
+    (48 + d, u ++ rest, element_bytes x a b s ∙ ap (λ t. t ++ rest) is, omega arith)
 
 -- an element's text begins with a digit
 label_first : (x : ℕ) (b : ℕ) (s u : List ℕ) → x < max_rows → b ∷ s ≡ decimal x ++ u → b ≡ 64 → ⊥
-label_first x b s u h e is = go (figures x h) e
-  where
-    go : {f : List ℕ} → Figures x f → b ∷ s ≡ f ++ u → ⊥
-    go (one l) e = let (first, _) = parts e in omega arith
-    go (two l g) e = let (first, _) = parts e in omega arith
+label_first x b s u h e is = let (d, v, small, f) = decimal_first x h in let (first, _) = parts (e ∙ ap (λ t. t ++ u) f) in omega arith
 
 comma_or_void : (d : Document) → (d ≡ void) ⊎ (comma_before d ≡ 44 ∷ [])
 comma_or_void void = inl refl
 comma_or_void (reference n) = inr refl
 comma_or_void (element x a b) = inr refl
-
--- where a list ends, no comma stands
-closing_no_comma : (tail : List ℕ) (s : List ℕ) → Closing tail → tail ≡ 44 ∷ s → ⊥
-closing_no_comma [] s c e = never (cc)
-closing_no_comma (b ∷ tail) s c e = let (first, _) = parts e in omega arith
 
 -- THE LIST FUNCTION
 pub list_past : (t : List ℕ) (before after : List Node) (used : ℕ) (r : Reached) → length t ≡ 0 → BuildsList t before after used r
@@ -147,7 +133,7 @@ module _ (t : List ℕ) (used label : ℕ) (before m₁ m₂ after : List Node) 
       let rest = comma_before c ++ (spelled_document c ++ tail) in
       let (el, built) = inner x a rest h.0 h.1 (e ∙ element_bytes x a c tail) some (omega arith) in
       ⊎_elim
-      (λ ev. absurd (closing_no_comma tail more closing (sym (built.rest ∙ ap (λ d. comma_before d ++ (spelled_document d ++ tail)) ev) ∙ comma)))
+      (λ ev. absurd (not_comma tail more closing (sym (built.rest ∙ ap (λ d. comma_before d ++ (spelled_document d ++ tail)) ev) ∙ comma)))
       (λ ec.
       let (_, next) = parts (sym comma ∙ built.rest ∙ ap (λ u. u ++ (spelled_document c ++ tail)) ec) in
       let la = length_nodes a used in

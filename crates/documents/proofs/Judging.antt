@@ -1,6 +1,7 @@
 -- A scan of a text, byte by byte, finds where it is wrong or too deep, or how many nodes its document takes.
-use Rattle.std.proofs.Common.{Some, None, Ok, Err, ◌≡◌, ℕ, suc, ◌+◌, ◌/◌, ◌%◌, ◌<◌, ◌≤◌, true, false, cond, List, [], ◌∷◌, ◌++◌, length, get_or, take, decimal, sym, refl, ap, ◌∙◌, subst, add-one, arith, length-take, below_more}
-use Rattle.std.proofs.lemmas.List.{take_all, take_more}
+use Rattle.std.proofs.Common.{Some, None, Ok, Err, ◌≡◌, ℕ, suc, ◌+◌, ◌/◌, ◌%◌, ◌<◌, ◌≤◌, true, false, cond, List, ◌∷◌, ◌++◌, length, get_or, take, decimal, count_by, sym, refl, ap, ◌∙◌, subst, add-one, arith, length-take, below_more}
+use Rattle.std.proofs.lemmas.List.{take_all}
+use Rattle.std.proofs.lemmas.List.Sums.{sum_by-cons, sum_by-append, sum_by_more, count_by-le-length}
 use Rattle.std.proofs.lemmas.Bool.Decides.{nat_tests}
 use Rattle.forms.specs.Documents.{Document}
 use Rattle.forms.specs.Documents.Document.{void, reference, element}
@@ -9,32 +10,23 @@ use Rattle.documents.specs.declared.scan.Scan.{Scan}
 use Rattle.documents.specs.declared.faults.ReadFault.TheVariants.{Wrong, TooDeep}
 use Rattle.documents.specs.Limits.{max_levels}
 use Rattle.documents.specs.Grammar.{comma_before, spelled_document, Small, level, OpensTooMany}
-use Rattle.documents.specs.Scan.{State, step, scan, goes_on, is_whole}
+use Rattle.documents.specs.Scan.{State, step, is_whole}
 use Rattle.documents.specs.Nodes.{size}
 use Rattle.documents.specs.Judged.{marks, JudgedAs}
-use Rattle.texts.proofs.Numbers.{Figures, figures}
-use Rattle.texts.proofs.Numbers.Figures.{one, two}
+use Rattle.forms.proofs.Decimals.{Figures, figures}
+use Rattle.forms.proofs.Decimals.Figures.{one, two}
 use Rattle.documents.proofs.Texts.{texts_are_spelled}
-use Rattle.documents.proofs.Scanning.{move, scan_more, scan_tells_texts, scan_tells_going_on}
-use Rattle.documents.proofs.Levels.{shift, depth, move_level, scan_tells_level}
+use Rattle.documents.proofs.Scanning.{scan, goes_on, move, scan_more, scan_tells_texts, scan_tells_going_on}
+use Rattle.documents.proofs.Levels.{shift, depth, move_level, over_by_bracket, scan_tells_level}
 use Rattle.documents.proofs.Reading.{wrong_where_stuck, wrong_at_the_end}
 use Rattle.documents.proofs.Tables.{length_nodes}
 
 -- NODES. A document takes as many nodes as its text has bytes that begin one.
+abbrev mark : ℕ → ℕ
+mark b = cond (marks b) 1 0
+
 abbrev pub marked : List ℕ → ℕ
-marked [] = 0
-marked (b ∷ bytes) = cond (marks b) 1 0 + marked bytes
-
-marked_append : (u v : List ℕ) → marked (u ++ v) ≡ marked u + marked v
-marked_append [] v = omega arith
-marked_append (b ∷ u) v = let h = marked_append u v in omega arith
-
-marked_more : (bytes : List ℕ) (i : ℕ) → i < length bytes → marked (take (i + 1) bytes) ≡ marked (take i bytes) + cond (marks (get_or bytes i 0)) 1 0
-marked_more bytes i h = ap marked (take_more bytes i 0 h) ∙ marked_append (take i bytes) (get_or bytes i 0 ∷ []) ∙ omega arith
-
-pub marked_within : (bytes : List ℕ) → marked bytes ≤ length bytes
-marked_within [] = omega arith
-marked_within (b ∷ bytes) = let h = marked_within bytes in elim (marks b) as (λ t. cond t 1 0 + marked bytes ≤ suc (length bytes)) [ true ↦ omega arith | false ↦ omega arith ]
+marked bytes = count_by marks bytes
 
 digit_marks_none : (d : ℕ) → d < 10 → marks (48 + d) ≡ false
 digit_marks_none d h = grind (arith, nat_tests)
@@ -50,25 +42,21 @@ comma_marks_none (element x a b) = refl
 
 marked_size : (d : Document) → Small d → marked (spelled_document d) ≡ size d
 marked_size void h = refl
-marked_size (reference c) h = omega (arith, figures_mark_none (figures c h))
+marked_size (reference c) h = omega (arith, sum_by-cons mark 64 (decimal c), figures_mark_none (figures c h))
 marked_size (element x a b) h =
     let behind = comma_before b ++ spelled_document b in
     omega (
       arith,
-      marked_append (decimal x) (91 ∷ (spelled_document a ++ (93 ∷ behind))),
+      sum_by-append mark (decimal x) (91 ∷ (spelled_document a ++ (93 ∷ behind))),
       figures_mark_none (figures x h.0),
-      marked_append (spelled_document a) (93 ∷ behind),
+      sum_by-cons mark 91 (spelled_document a ++ (93 ∷ behind)),
+      sum_by-append mark (spelled_document a) (93 ∷ behind),
       marked_size a h.1,
-      marked_append (comma_before b) (spelled_document b),
+      sum_by-cons mark 93 behind,
+      sum_by-append mark (comma_before b) (spelled_document b),
       comma_marks_none b,
       marked_size b h.2,
     )
-
-over_by_bracket : (n b m : ℕ) → shift n b ≡ m → n ≤ max_levels → max_levels < m → b ≡ 91
-over_by_bracket n b m e few over = grind (arith, nat_tests)
-
-over_by_one : (n b m : ℕ) → shift n b ≡ m → n ≤ max_levels → max_levels < m → n ≡ max_levels
-over_by_one n b m e few over = grind (arith, nat_tests)
 
 opens_not : (n b m : ℕ) → shift n b ≡ m → m ≤ max_levels → b ≡ 91 → n ≡ max_levels → ⊥
 opens_not n b m e few opens full = grind (arith, nat_tests)
@@ -103,10 +91,7 @@ module _ (bytes : List ℕ) (i : ℕ) (s : Scan) (nodes : ℕ) (scanned : Scanne
 
     pub found_deep : (t : Scan) → Some t ≡ step (Some s) byte → max_levels < t.level → JudgedAs bytes (Err (TooDeep i))
     found_deep t e over =
-        let to = moved_to t e in
-        let few = scanned.shallow in
-        let opens : byte ≡ 91 = over_by_bracket s.level byte t.level to few over in
-        let full : s.level ≡ max_levels = over_by_one s.level byte t.level to few over in
+        let (opens, full) = over_by_bracket s.level byte scanned.shallow (omega (arith, moved_to t e)) in
         (((within-bytes, opens, level_is ∙ full), scanned.none), (scan_tells_going_on (take (suc i) bytes)).0 (ap goes_on (ap (λ k. scan (take k bytes)) (sym (add-one i)) ∙ after (Some t) e)))
 
     pub scanned_more : (t : Scan) (nodes' : ℕ) → Some t ≡ step (Some s) byte → t.level ≤ max_levels → nodes' ≡ nodes + cond (marks byte) 1 0 → Scanned bytes (i + 1) t nodes'
@@ -114,7 +99,7 @@ module _ (bytes : List ℕ) (i : ℕ) (s : Scan) (nodes : ℕ) (scanned : Scanne
       state = after (Some t) e;
       shallow = few;
       none = below_more (λ j. OpensTooMany bytes j → ⊥) i scanned.none (λ (h, opens, full). opens_not s.level byte t.level (moved_to t e) few opens (sym level_is ∙ full));
-      count = let g = marked_more bytes i within-bytes in let h = scanned.count in omega arith;
+      count = omega (arith, sum_by_more mark bytes i 0 within-bytes, scanned.count);
     }
 
   -- at the end
@@ -134,8 +119,4 @@ module _ (bytes : List ℕ) (i : ℕ) (s : Scan) (nodes : ℕ) (scanned : Scanne
   -- the count stays small
   pub scanned_few : i < length bytes → (r : ℕ) → r ≡ cond (marks byte) 1 0 → nodes + r ≤ length bytes + 1
   scanned_few h r e =
-      let few = marked_within (take (i + 1) bytes) in
-      let more = marked_more bytes i h in
-      let short = length-take (i + 1) bytes in
-      let count = scanned.count in
-      omega arith
+      omega (arith, count_by-le-length marks (take (i + 1) bytes), sum_by_more mark bytes i 0 h, length-take (i + 1) bytes, scanned.count)

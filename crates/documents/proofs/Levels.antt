@@ -7,7 +7,7 @@ use Rattle.std.proofs.lemmas.Bool.Decides.{nat_tests}
 use Rattle.forms.specs.Documents.{Document}
 use Rattle.documents.specs.Grammar.{comma_before, spelled_document, Small, level, levels}
 use Rattle.forms.specs.Documents.Document.{void, reference, element}
-use Rattle.documents.specs.Scan.{at, State, step, run, scan, goes_on, ScanTellsLevel}
+use Rattle.documents.specs.Scan.{at, State, step}
 use Rattle.documents.specs.declared.scan.Phase.{Phase}
 use Rattle.documents.specs.declared.scan.Phase.TheVariants.{MayBegin as may_begin}
 use Rattle.documents.specs.Nodes.{nodes_for}
@@ -16,10 +16,10 @@ use Rattle.documents.specs.Limits.{max_nodes, max_document, max_levels}
 use Rattle.documents.specs.Reading.{Reads, LevelsAreOpened, ReadIsSpelled}
 use Rattle.documents.specs.Reading.Reads.{is_read}
 use Rattle.forms.proofs.Findings.{never}
-use Rattle.texts.proofs.Numbers.{Figures, figures}
-use Rattle.texts.proofs.Numbers.Figures.{one, two}
+use Rattle.forms.proofs.Decimals.{Figures, figures}
+use Rattle.forms.proofs.Decimals.Figures.{one, two}
 use Rattle.documents.proofs.Texts.{texts_are_spelled}
-use Rattle.documents.proofs.Scanning.{Move, move, run_stuck, scan_tells_going_on}
+use Rattle.documents.proofs.Scanning.{run, scan, goes_on, Move, move, run_stuck, scan_tells_going_on}
 use Rattle.documents.proofs.Scanning.Move.{nowhere, closes, opens, to_label, to_row, on_label, into_row, on_row, on_list}
 use Rattle.documents.proofs.Reading.{goes_on_all, text_goes_on}
 
@@ -67,7 +67,8 @@ level_run (b ∷ w) (Some s) e =
     let (i, j) = level_run w (step (Some s) b) e in
     (ap (λ m. after m w) h ∙ i, omega (arith, sum_by-cons (λ x. cond (eqb x 91) 1 0) b w, sum_by-cons (λ x. cond (eqb x 93) 1 0) b w))
 
-pub scan_tells_level : ScanTellsLevel
+-- where bytes go on, the scan tells their level
+pub scan_tells_level : (bytes : List ℕ) (n : ℕ) (p : Phase) → scan bytes ≡ Some (at n p) → level bytes ≡ n
 scan_tells_level bytes n p e = let (_, h) = level_run bytes (Some (at 0 may_begin)) (rw e refl) in let g : depth (scan bytes) ≡ n = rw e refl in omega arith
 
 -- the level of bytes that go on
@@ -125,6 +126,10 @@ rises_document (element x a b) h n = rw (element_parts x a b)
     (rises_join n (comma_before b) (spelled_document b) 0 (levels b) (rises_comma n b) (rises_document b h.2 n))) in
     (e, omega arith))
 
+-- a level too many comes by a bracket, from the highest level that there may be
+pub over_by_bracket : (n b : ℕ) → n ≤ max_levels → max_levels < shift n b → (b ≡ 91) × (n ≡ max_levels)
+over_by_bracket n b few over = (grind (arith, nat_tests), grind (arith, nat_tests))
+
 -- the peak is past 64 just where a bracket opens a 65th level
 abbrev Opens : ℕ → List ℕ → ℕ → Type 0
 Opens n w k = (k < length w) × (get_or w k 0 ≡ 91) × (after n (take k w) ≡ max_levels)
@@ -137,15 +142,9 @@ peak_of_opens (b ∷ w) n (suc k) (h, e, l) = omega (arith, peak_of_opens w (shi
 opens_of_peak : (w : List ℕ) (n : ℕ) → n ≤ max_levels → max_levels < peak n w → (k : ℕ) × Opens n w k
 opens_of_peak [] n h g = absurd (omega arith)
 opens_of_peak (b ∷ w) n h g = ⊎_elim
-    (λ over. (0, (omega arith, over_by_bracket over, omega (arith, over_by_one over))))
+    (λ over. let (bracket, full) = over_by_bracket n b h over in (0, (omega arith, bracket, full)))
     (λ under. let (k, (l, e, i)) = opens_of_peak w (shift n b) under (omega arith) in (suc k, (omega arith, e, i)))
     (cases_lt max_levels (shift n b))
-  where
-    over_by_bracket : max_levels < shift n b → b ≡ 91
-    over_by_bracket over = grind (arith, nat_tests)
-
-    over_by_one : max_levels < shift n b → n ≡ max_levels
-    over_by_one over = grind (arith, nat_tests)
 
 pub levels_are_opened : LevelsAreOpened
 levels_are_opened bytes d t = (

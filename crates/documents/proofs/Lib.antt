@@ -2,10 +2,10 @@ pub mod Texts
 pub mod Scanning
 pub mod Reading
 pub mod Tables
-pub mod Unsound
 pub mod Levels
 pub mod Writing
 pub mod Judging
 pub mod Building
 pub mod Outcomes
 pub mod Shapes
+pub mod Laws

@@ -1,13 +1,13 @@
 -- A text that is wrong is wrong at one place, and reading has one outcome.
-use Rattle.std.proofs.Common.{◌≡◌, ℕ, zero, suc, ◌+◌, ◌<◌, ◌≤◌, min, Bool, true, false, ◌⊎◌, List, [], ◌++◌, length, get_or, take, drop, Decides, refl, ap, subst, inl, inr, ⊎_elim, arith}
+use Rattle.std.proofs.Common.{◌≡◌, ℕ, zero, suc, ◌+◌, ◌<◌, ◌≤◌, min, true, false, ◌⊎◌, List, [], ◌++◌, length, get_or, take, drop, refl, ap, subst, inl, inr, ⊎_elim, arith}
 use Rattle.std.proofs.lemmas.List.{append_assoc, append-nil, take-append-drop, take-take, take_all}
-use Rattle.std.proofs.lemmas.Bool.{cases_Bool, cases_eq, cases_lt, both_ways}
+use Rattle.std.proofs.lemmas.Bool.{cases_eq, cases_lt, both_ways}
 use Rattle.forms.specs.Documents.{Document}
 use Rattle.documents.specs.Grammar.{Text, GoesOn, WrongAt, WrongAtOnePlace, level, OpensTooMany}
 use Rattle.forms.specs.Documents.Document.{void}
 use Rattle.documents.specs.Grammar.Text.{empty}
 use Rattle.documents.specs.Grammar.WrongAt.{at_byte, at_end}
-use Rattle.documents.specs.Scan.{goes_on, is_whole, scan}
+use Rattle.documents.specs.Scan.{is_whole}
 use Rattle.documents.specs.Nodes.{nodes_for}
 use Rattle.forms.specs.Places.{NoneBelow}
 use Rattle.forms.specs.Refusals.{Outcome}
@@ -17,12 +17,9 @@ use Rattle.documents.specs.Faults.{read_refusal}
 use Rattle.documents.specs.Limits.{max_nodes, max_document, max_levels}
 use Rattle.documents.specs.Reading.{Reads, ReadingIsOne}
 use Rattle.documents.specs.Reading.Reads.{is_long, is_wrong, is_deep, is_large, is_read}
-use Rattle.forms.proofs.Findings.{Decided, both_or_not, least_below, lowest_one}
+use Rattle.forms.proofs.Findings.{Decided, decided, both_or_not, below_or_not, least_below, lowest_one}
 use Rattle.documents.proofs.Texts.{texts_are_unambiguous}
-use Rattle.documents.proofs.Scanning.{scan_tells_texts, scan_tells_going_on}
-
-decided : {P : Type 0} (b : Bool) → Decides b P → Decided P
-decided b (to, from) = ⊎_elim (λ e. inl (to e)) (λ ne. inr (λ p. both_ways b ne (from p))) (cases_Bool b)
+use Rattle.documents.proofs.Scanning.{scan, goes_on, scan_tells_texts, scan_tells_going_on}
 
 goes_on_front : (u v : List ℕ) → GoesOn (u ++ v) → GoesOn u
 goes_on_front u v (rest, d, t) = (v ++ rest, d, subst (λ s. Text s d) (append_assoc u v rest) t)
@@ -87,7 +84,7 @@ wrong_at_one_place bytes = ⊎_elim
 module _ (buffer : ℕ) (bytes : List ℕ) where
   opens_or_not : (k : ℕ) → Decided (OpensTooMany bytes k)
   opens_or_not k = ⊎_elim (λ (h, (e, l)). inl (h, e, l)) (λ none. inr (λ (h, e, l). none (h, (e, l))))
-      (both_or_not (⊎_elim inl (λ h. inr (λ l. omega arith)) (cases_lt k (length bytes))) (both_or_not (cases_eq (get_or bytes k 0) 91) (cases_eq (level (take k bytes)) max_levels)))
+      (both_or_not (below_or_not k (length bytes)) (both_or_not (cases_eq (get_or bytes k 0) 91) (cases_eq (level (take k bytes)) max_levels)))
 
   reads_short : length bytes ≤ max_document → (o : Outcome Document) × Reads buffer bytes o
   reads_short short = ⊎_elim

@@ -1,20 +1,33 @@
 -- The scan tells which bytes are texts, and which go on.
-use Rattle.std.proofs.Common.{Some, None, ◌≡◌, ℕ, zero, suc, ◌+◌, ◌-◌, ◌*◌, ◌/◌, ◌%◌, ◌^◌, ◌<◌, ◌≤◌, true, false, cond, eqb, List, [], ◌∷◌, ◌++◌, length, get_or, take, decimal, sym, refl, ap, ◌∙◌, subst, ap₂, arith}
+use Rattle.std.proofs.Common.{Some, None, ◌≡◌, ℕ, zero, suc, ◌+◌, ◌-◌, ◌*◌, ◌/◌, ◌%◌, ◌^◌, ◌<◌, ◌≤◌, Bool, true, false, cond, eqb, Decides, List, [], ◌∷◌, ◌++◌, length, get_or, take, decimal, sym, refl, ap, ◌∙◌, subst, ap₂, arith}
 use Rattle.std.proofs.lemmas.List.{append_assoc, append-nil, take_more}
 use Rattle.std.proofs.lemmas.Bool.{cond_both, eqb-true}
 use Rattle.std.proofs.lemmas.Bool.Decides.{nat_tests}
 use Rattle.std.proofs.lemmas.Fmt.{decimal_digit, decimal_step}
 use Rattle.forms.specs.Documents.{Document}
-use Rattle.documents.specs.Grammar.{Text, comma_before, spelled_document, Small}
+use Rattle.documents.specs.Grammar.{Text, GoesOn, comma_before, spelled_document, Small}
 use Rattle.forms.specs.Documents.Document.{void, reference, element}
 use Rattle.forms.specs.Limits.{max_rows, label_count}
-use Rattle.documents.specs.Scan.{at, State, may_end, is_digit, may_follow, closed, begun, moved, step, run, scan, goes_on, is_whole, ScanTellsTexts, ScanTellsGoingOn}
+use Rattle.documents.specs.Scan.{at, State, may_end, is_digit, may_follow, closed, begun, moved, step, is_whole}
 use Rattle.documents.specs.declared.scan.Phase.{Phase}
 use Rattle.documents.specs.declared.scan.Phase.TheVariants.{MayBegin as may_begin, MustBegin as must_begin, InLabel as in_label, AfterAt as after_at, InRow as in_row, AfterElement as after_element}
 use Rattle.forms.proofs.Findings.{never}
-use Rattle.texts.proofs.Numbers.{Figures, figures}
-use Rattle.texts.proofs.Numbers.Figures.{one, two}
+use Rattle.forms.proofs.Decimals.{Figures, figures}
+use Rattle.forms.proofs.Decimals.Figures.{one, two}
 use Rattle.documents.proofs.Texts.{texts_are_spelled}
+
+-- AFTER SOME BYTES: where the scan is
+abbrev pub run : State → List ℕ → State
+run s [] = s
+run s (b ∷ bytes) = run (step s b) bytes
+
+abbrev pub scan : List ℕ → State
+scan bytes = run (Some (at 0 may_begin)) bytes
+
+-- and whether it is somewhere
+abbrev pub goes_on : State → Bool
+goes_on (Some s) = true
+goes_on None = false
 
 pub run_append : (s : State) (u v : List ℕ) → run s (u ++ v) ≡ run (run s u) v
 run_append s [] v = refl
@@ -231,7 +244,7 @@ finishes [] zero p e = rest_end p e
 finishes [] (suc n) p e = never (cc)
 finishes (b ∷ w) n p e = finishes_move w (finishes w) (move n b p) e
 
-pub scan_tells_texts : ScanTellsTexts
+pub scan_tells_texts : (bytes : List ℕ) → Decides (is_whole (scan bytes)) ((d : Document) × Text bytes d)
 scan_tells_texts bytes = (
   λ e. let (d, h, ed) = finishes bytes 0 may_begin e in (d, (texts_are_spelled bytes d).1 (h, ed)),
   λ (d, t). text_whole bytes d t,
@@ -267,7 +280,7 @@ alive : (s : State) (t : List ℕ) → is_whole (run s t) ≡ true → goes_on s
 alive (Some s) t e = refl
 alive None t e = let z : is_whole None ≡ true = rw (run_stuck t) at e in never (cc)
 
-pub scan_tells_going_on : ScanTellsGoingOn
+pub scan_tells_going_on : (bytes : List ℕ) → Decides (goes_on (scan bytes)) (GoesOn bytes)
 scan_tells_going_on bytes = (
   λ e. let (t, h) = completes (scan bytes) e in let (d, text) = (scan_tells_texts (bytes ++ t)).0 (rw (run_append (Some (at 0 may_begin)) bytes t) h) in (t, d, text),
   λ (t, d, h). alive (scan bytes) t (rw (run_append (Some (at 0 may_begin)) bytes t) at (text_whole (bytes ++ t) d h)),

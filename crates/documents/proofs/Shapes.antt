@@ -1,5 +1,5 @@
 -- Documents by the nodes that stand for them, and their texts by parts. Assumes nothing.
-use Rattle.std.proofs.Common.{◌≡◌, ℕ, ◌-◌, ◌<◌, ◌≤◌, leb, List, [], ◌∷◌, ◌++◌, length, get_or, Some, None, decimal, sym, refl, ap, ◌∙◌, subst, ⊎_elim, arith}
+use Rattle.std.proofs.Common.{◌≡◌, ℕ, ◌-◌, ◌<◌, ◌≤◌, leb, List, [], ◌∷◌, ◌++◌, length, get_or, Some, None, Option, MatchOption, decimal, sym, refl, ap, ◌∙◌, subst, ⊎_elim, arith}
 use Rattle.std.specs.List.{slice_get}
 use Rattle.std.proofs.lemmas.Option.{slice_get-get_or}
 use Rattle.std.proofs.lemmas.Bool.{cases_lt, cond-true, cond-false, le-leb, lt-leb}
@@ -74,19 +74,22 @@ module _ (nodes : List Node) (k : ℕ) (sound : Sound nodes) (lt : k < length no
     pub look_then_element : (m p q : ℕ) → get_or nodes f Void ≡ Element m p q → Shaped nodes k (Branch l i (Some f))
     look_then_element m p q v = followed (λ b h. ap comma_before (of_element (slice_get-get_or nodes f Void following_within ∙ ap Some v) h).2)
 
--- which node is the lowest that is not sound, in whatever sense
-module _ (P : ℕ → Node → Type 0) (nodes : List Node) (k : ℕ) where
-  abbrev Before : Type 0
-  Before = (j : ℕ) → j < k → (m : Node) → slice_get nodes j ≡ Some m → P j m
+-- which node is the lowest that is not sound, in whatever sense: none where all are, from what is found of them by their numbers
+module _ (P : ℕ → Node → Type 0) (nodes : List Node) where
+  abbrev Here : ℕ → Type 0
+  Here k = P k (get_or nodes k Void)
 
-  pub first_unsound : k < length nodes → Before → (P k (get_or nodes k Void) → ⊥) → Lowest (Fault nodes P) k
-  first_unsound lt below none = ((get_or nodes k Void, slice_get-get_or nodes k Void lt, none), λ j h (m, e, ns). ns (below j h m e))
+  here_is : (k : ℕ) {m : Node} → slice_get nodes k ≡ Some m → Here k → P k m
+  here_is k {m} e here = let same : get_or nodes k Void ≡ m = cc (slice_get-get_or nodes k Void (nth_below nodes k e)) in subst (P k) same here
 
-  pub all_sound : length nodes ≤ k → Before → (j : ℕ) {m : Node} → slice_get nodes j ≡ Some m → P j m
-  all_sound all below j {m} e = below j (omega (arith, nth_below nodes j e)) m e
-
-  pub one_more_sound : k < length nodes → P k (get_or nodes k Void) → (m : Node) → slice_get nodes k ≡ Some m → P k m
-  one_more_sound lt here m e = let same : get_or nodes k Void ≡ m = cc (slice_get-get_or nodes k Void lt) in subst (P k) same here
+  pub sound_or_lowest : (All : Type 0) → (((k : ℕ) (m : Node) → slice_get nodes k ≡ Some m → P k m) → All) → (r : Option ℕ)
+      → MatchOption r ((k : ℕ) → 0 ≤ k → k < length nodes → Here k) (λ i. (0 ≤ i) × (i < length nodes) × (Here i → ⊥) × ((k : ℕ) → 0 ≤ k → k < i → Here k))
+      → MatchOption r All (λ k. Lowest (Fault nodes P) k)
+  sound_or_lowest All all None sound = all (λ k m e. here_is k e (sound k (omega arith) (nth_below nodes k e)))
+  sound_or_lowest All all (Some i) (_, lt, none, before) = (
+    (get_or nodes i Void, slice_get-get_or nodes i Void lt, none),
+    λ j h (m, e, ns). ns (here_is j e (before j (omega arith) h)),
+  )
 
 -- THE ROOM THAT IS LEFT
 rest_some : (room n : ℕ) → n ≤ room → rest room n ≡ Some (room - n)

@@ -1,5 +1,5 @@
 -- Tables of nodes stand for documents.
-use Rattle.std.proofs.Common.{◌≡◌, ℕ, zero, suc, ◌+◌, ◌-◌, ◌<◌, ◌≤◌, ◌⊎◌, List, [], ◌∷◌, ◌++◌, length, Some, refl, ap, ◌∙◌, subst, inl, inr, ⊎_elim, one-add, arith}
+use Rattle.std.proofs.Common.{◌≡◌, ℕ, zero, suc, ◌+◌, ◌-◌, ◌<◌, ◌≤◌, List, [], ◌∷◌, ◌++◌, length, Some, refl, ◌∙◌, subst, ⊎_elim, one-add, arith}
 use Rattle.std.specs.List.{slice_get}
 use Rattle.std.proofs.lemmas.List.{length-append}
 use Rattle.std.proofs.lemmas.Bool.{cases_eq}
@@ -10,7 +10,9 @@ use Rattle.documents.specs.Grammar.{Small}
 use Rattle.forms.specs.Documents.Document.{void, reference, element}
 use Rattle.documents.specs.Nodes.{StandsFor, SoundAt, Sound, size, root, nodes_from, nodes_for, NodesStandForDocuments, NodesStandForOne}
 use Rattle.documents.specs.Nodes.StandsFor.{for_void, for_reference, for_element}
-use Rattle.forms.proofs.Findings.{never}
+use Rattle.forms.proofs.Findings.{never, nth_some}
+use Rattle.documents.proofs.Shapes.{of_void, of_reference, of_element}
+pub use Rattle.forms.proofs.Findings.{nth_append, nth_left, nth_right}
 
 pub length_nodes : (d : Document) (n : ℕ) → length (nodes_from n d) ≡ size d
 length_nodes void n = refl
@@ -21,17 +23,6 @@ root_below : (d : Document) (n : ℕ) → 1 ≤ n → root n d < n + size d
 root_below void n h = omega arith
 root_below (reference c) n h = omega arith
 root_below (element x a b) n h = omega arith
-
--- where the nodes of a joined list come from
-pub nth_append : {A : Type 0} (xs ys : List A) (k : ℕ) {m : A} → slice_get (xs ++ ys) k ≡ Some m → (slice_get xs k ≡ Some m) ⊎ ((j : ℕ) × (k ≡ length xs + j) × (slice_get ys j ≡ Some m))
-nth_append [] ys k e = inr (k, omega arith, e)
-nth_append (x ∷ xs) ys zero e = inl e
-nth_append (x ∷ xs) ys (suc k) e = ⊎_elim inl (λ (j, ek, h). inr (j, omega arith, h)) (nth_append xs ys k e)
-
-pub nth_some : {A : Type 0} (xs : List A) (k : ℕ) → k < length xs → (m : A) × (slice_get xs k ≡ Some m)
-nth_some [] k h = absurd (omega arith)
-nth_some (x ∷ xs) zero h = (x, refl)
-nth_some (x ∷ xs) (suc k) h = nth_some xs k (omega arith)
 
 sound_from : (d : Document) (n : ℕ) → 1 ≤ n → Small d → (k : ℕ) (m : Node) → slice_get (nodes_from n d) k ≡ Some m → SoundAt (n + k) m
 sound_from void n h s k m e = never (cc)
@@ -52,15 +43,6 @@ sound_from (element x a b) n h s k m e = ⊎_elim
 -- the nodes stand in the table from n on
 abbrev Placed : List Node → ℕ → List Node → Type 0
 Placed table n ms = (k : ℕ) (m : Node) → slice_get ms k ≡ Some m → slice_get table (n + k) ≡ Some m
-
-pub nth_left : {A : Type 0} (xs ys : List A) (k : ℕ) {m : A} → slice_get xs k ≡ Some m → slice_get (xs ++ ys) k ≡ Some m
-nth_left [] ys k e = never (cc)
-nth_left (x ∷ xs) ys zero e = e
-nth_left (x ∷ xs) ys (suc k) e = nth_left xs ys k e
-
-pub nth_right : {A : Type 0} (xs ys : List A) (k : ℕ) → slice_get (xs ++ ys) (length xs + k) ≡ slice_get ys k
-nth_right [] ys k = ap (slice_get ys) (omega arith)
-nth_right (x ∷ xs) ys k = let e : suc (length xs) + k ≡ suc (length xs + k) = omega arith in rw e (nth_right xs ys k)
 
 placed_right : (table : List Node) (n : ℕ) (xs ys : List Node) (l : ℕ) → length xs ≡ l → Placed table n (xs ++ ys) → Placed table (n + l) ys
 placed_right table n xs ys l el placed k m e = subst (λ i. slice_get table i ≡ Some m) (omega arith) (placed (length xs + k) m (nth_right xs ys k ∙ e))
@@ -93,21 +75,9 @@ nodes_stand_for_documents d s = (record { each = sound }, subst (λ k. StandsFor
 
 -- ONE DOCUMENT
 pub stands_one : {nodes : List Node} {k : ℕ} {d e : Document} → StandsFor nodes k d → StandsFor nodes k e → e ≡ d
-stands_one (for_void h) (for_void g) = refl
-stands_one (for_void h) (for_reference g) = never (cc)
-stands_one (for_void h) (for_element g t u) = never (cc)
-stands_one (for_reference h) (for_void g) = never (cc)
-stands_one (for_reference {c} h) (for_reference {c = c'} g) = let e : c' ≡ c = cc in cc
-stands_one (for_reference h) (for_element g t u) = never (cc)
-stands_one (for_element h p q) (for_void g) = never (cc)
-stands_one (for_element h p q) (for_reference g) = never (cc)
-stands_one {nodes} (for_element {x} {i} {f} h p q) (for_element {x = x'} {i = i'} {f = f'} {a = a'} {b = b'} g t u) =
-    let ei : i' ≡ i = cc in
-    let ef : f' ≡ f = cc in
-    let ex : x' ≡ x = cc in
-    let ea = stands_one p (subst (λ j. StandsFor nodes j a') ei t) in
-    let eb = stands_one q (subst (λ j. StandsFor nodes j b') ef u) in
-    cc
+stands_one (for_void h) u = of_void h u
+stands_one (for_reference h) u = of_reference h u
+stands_one (for_element h p q) u = let (a, b, is, t, v) = of_element h u in let ea = stands_one p t in let eb = stands_one q v in cc
 
 module _ (nodes : List Node) (sound : Sound nodes) where
   abbrev Stands : ℕ → Type 0

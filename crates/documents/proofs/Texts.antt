@@ -2,7 +2,7 @@
 use Rattle.std.proofs.Common.{◌≡◌, ℕ, ◌+◌, ◌/◌, ◌%◌, ◌<◌, List, [], ◌∷◌, ◌++◌, decimal, sym, refl, ap, ◌∙◌, subst, arith}
 use Rattle.std.proofs.lemmas.List.{append_assoc, append-nil}
 use Rattle.forms.specs.Documents.{Document}
-use Rattle.forms.specs.Limits.{label_count}
+use Rattle.forms.specs.Limits.{max_rows, label_count}
 use Rattle.documents.specs.Built.{NoDigit, Closing}
 use Rattle.documents.specs.Grammar.{Text, Listed, Bracketed, comma_before, spelled_document, Small, TextsAreSpelled, TextsAreUnambiguous}
 use Rattle.forms.specs.Documents.Document.{void, reference, element}
@@ -10,8 +10,8 @@ use Rattle.documents.specs.Grammar.Text.{empty, a_list}
 use Rattle.documents.specs.Grammar.Listed.{a_reference, an_element, and_more}
 use Rattle.documents.specs.Grammar.Bracketed.{brackets}
 use Rattle.forms.proofs.Findings.{never}
-use Rattle.texts.proofs.Numbers.{Figures, figures}
-use Rattle.texts.proofs.Numbers.Figures.{one, two}
+use Rattle.forms.proofs.Decimals.{Figures, figures}
+use Rattle.forms.proofs.Decimals.Figures.{one, two}
 
 -- FROM THE GRAMMAR
 -- an element without what follows it
@@ -62,9 +62,13 @@ figures_one {m} {n} (one h) (two g k) s t p q e = let e' : s ≡ (48 + n % 10) �
 figures_one {m} {n} (two h k) (one g) s t p q e = let e' : t ≡ (48 + m % 10) ∷ s = cc in let l : NoDigit ((48 + m % 10) ∷ s) = rw e' at q in absurd (omega arith)
 figures_one {m} {n} (two h k) (two g l) s t p q e = let e' : 48 + m / 10 ≡ 48 + n / 10 = cc in let e'' : 48 + m % 10 ≡ 48 + n % 10 = cc in (omega arith, cc)
 
-figures_digit : {n : ℕ} {f : List ℕ} → Figures n f → (s : List ℕ) → NoDigit (f ++ s) → ⊥
-figures_digit {n} (one h) s c = omega arith
-figures_digit {n} (two h g) s c = omega arith
+-- a number begins with a digit
+pub decimal_first : (n : ℕ) → n < max_rows → (d : ℕ) × (u : List ℕ) × (d < 10) × (decimal n ≡ (48 + d) ∷ u)
+decimal_first n h = go (figures n h)
+  where
+    go : {f : List ℕ} → Figures n f → (d : ℕ) × (u : List ℕ) × (d < 10) × (f ≡ (48 + d) ∷ u)
+    go (one l) = (n, [], l, refl)
+    go (two l g) = (n / 10, (48 + n % 10) ∷ [], g, refl)
 
 pub closing_no_digit : (s : List ℕ) → Closing s → NoDigit s
 closing_no_digit [] c = tt
@@ -75,10 +79,14 @@ pub element_bytes : (x : ℕ) (a b : Document) (s : List ℕ) → spelled_docume
 element_bytes x a b s = simp append_assoc
 
 no_element : (x : ℕ) (a b : Document) (s t : List ℕ) → x < label_count → NoDigit t → spelled_document (element x a b) ++ s ≡ t → ⊥
-no_element x a b s t h none e = figures_digit (figures x h) _ (subst NoDigit (sym e ∙ element_bytes x a b s) none)
+no_element x a b s t h none e =
+    let (d, u, small, is) = decimal_first x h in
+    let rest = 91 ∷ (spelled_document a ++ (93 ∷ (comma_before b ++ (spelled_document b ++ s)))) in
+    let first : NoDigit ((48 + d) ∷ (u ++ rest)) = subst NoDigit (sym e ∙ element_bytes x a b s ∙ ap (λ y. y ++ rest) is) none in
+    omega arith
 
 -- a list that ends is no comma
-not_comma : (s r : List ℕ) → Closing s → s ≡ 44 ∷ r → ⊥
+pub not_comma : (s r : List ℕ) → Closing s → s ≡ 44 ∷ r → ⊥
 not_comma s r c e = let z : Closing (44 ∷ r) = rw e at c in omega arith
 
 comma_one : (b c : Document) (s t : List ℕ) → Closing s → Closing t → comma_before b ++ (spelled_document b ++ s) ≡ comma_before c ++ (spelled_document c ++ t) → spelled_document b ++ s ≡ spelled_document c ++ t

@@ -1,11 +1,9 @@
 -- A scan of document text, byte by byte: what may come next. Assumes nothing.
-use Rattle.std.specs.Prelude.{◌≡◌, ℕ, zero, suc, ◌+◌, ◌-◌, ◌*◌, Bool, true, false, cond, ◌&&◌, List, [], ◌∷◌, Some, None, Option, Decides, ◌==◌, nat_le, nat_lt}
+use Rattle.std.specs.Prelude.{ℕ, zero, suc, ◌+◌, ◌-◌, ◌*◌, Bool, true, false, cond, ◌&&◌, Some, None, Option, ◌==◌, nat_le, nat_lt}
 use Rattle.forms.specs.Limits.{max_rows, label_count}
 use Rattle.documents.specs.declared.scan.Phase.{Phase}
 use Rattle.documents.specs.declared.scan.Scan.{Scan}
 use Rattle.documents.specs.declared.scan.Phase.TheVariants.{MayBegin as may_begin, MustBegin as must_begin, InLabel as in_label, AfterAt as after_at, InRow as in_row, AfterElement as after_element}
-use Rattle.forms.specs.Documents.{Document}
-use Rattle.documents.specs.Grammar.{Text, GoesOn, level}
 
 -- so many brackets are open, and the scan is there in a list
 abbrev pub at : ℕ → Phase → Scan
@@ -53,17 +51,6 @@ abbrev pub step : State → ℕ → State
 step None b = None
 step (Some s) b = cond (b == 93) (cond (may_end s.phase) (closed s.level) None) (moved s.level s.phase b)
 
-abbrev pub run : State → List ℕ → State
-run s [] = s
-run s (b ∷ bytes) = run (step s b) bytes
-
-abbrev pub scan : List ℕ → State
-scan bytes = run (Some (at 0 may_begin)) bytes
-
-abbrev pub goes_on : State → Bool
-goes_on (Some s) = true
-goes_on None = false
-
 -- the text may end here, with so many brackets open
 abbrev pub ends_at : ℕ → Phase → Bool
 ends_at zero p = may_end p
@@ -72,14 +59,3 @@ ends_at (suc n) p = false
 abbrev pub is_whole : State → Bool
 is_whole (Some s) = ends_at s.level s.phase
 is_whole None = false
-
--- The scan tells whether bytes are a text, and whether they go on.
-abbrev pub ScanTellsTexts : Type 0
-ScanTellsTexts = (bytes : List ℕ) → Decides (is_whole (scan bytes)) ((d : Document) × Text bytes d)
-
-abbrev pub ScanTellsGoingOn : Type 0
-ScanTellsGoingOn = (bytes : List ℕ) → Decides (goes_on (scan bytes)) (GoesOn bytes)
-
--- And where they go on, it tells the level of brackets.
-abbrev pub ScanTellsLevel : Type 0
-ScanTellsLevel = (bytes : List ℕ) (n : ℕ) (p : Phase) → scan bytes ≡ Some (at n p) → level bytes ≡ n

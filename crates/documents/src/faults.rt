@@ -6,29 +6,29 @@ use forms::refusals::Refused;
 use std::error::Error;
 use std::fmt;
 
-// Why a text is not read. A place is the number of a byte, from 0, or the text's length where it ends too early.
+/// Why a text is not read, each case with a number of its own (`read_refusal`). A place is the number of a byte, from 0, or the text's length where it ends too early.
 #[derive(Clone, Copy, PartialEq, Eq, Debug)]
 pub enum ReadFault {
-    // more than 32,768 bytes
+    /// 40: more than 32,768 bytes
     TooLong,
-    // no text of the grammar goes on so
-    Wrong { place: usize },
-    // the bracket that opens a 65th level
-    TooDeep { place: usize },
-    // more nodes than the buffer has, or than 4,160
+    /// 41: no text of the grammar goes on so at this place
+    Wrong { place: u16 },
+    /// 43: the bracket at this place opens a 65th level
+    TooDeep { place: u16 },
+    /// 44: more nodes than the buffer has, or than 4,160
     TooManyNodes,
 }
 
-// Why a table is not written as text.
+/// Why a table is not written as text, each case with a number of its own (`write_refusal`).
 #[derive(Clone, Copy, PartialEq, Eq, Debug)]
 pub enum WriteFault {
-    // more than 4,160 nodes
+    /// 30: more than 4,160 nodes
     ManyNodes,
-    // the lowest node that points at no lower node, or has a label or row number that text cannot spell
-    Unsound { node: usize },
-    // the root is not in the table
+    /// 31: the lowest node that does not point at lower nodes, or has a label or row number that text cannot spell
+    Unsound { node: u16 },
+    /// 32: the root is not in the table
     RootOutside,
-    // a text longer than the buffer, or than 32,768 bytes
+    /// 45: a text longer than the buffer, or than 32,768 bytes
     TooLong,
 }
 
@@ -76,7 +76,7 @@ impl fmt::Display for ReadFault {
             ),
             ReadFault::TooManyNodes => write!(
                 f,
-                "this order is too large ({number}): it takes more than {MAX_NODES} nodes"
+                "this order is too large ({number}): it takes more nodes than the buffer has, or more than {MAX_NODES}"
             ),
         }
     }

@@ -5,14 +5,15 @@ ghost use Rattle.documents.specs.Limits.{max_nodes, max_document};
 ghost use Rattle.documents.specs.Built.{Ready, Onward, ReadsNumber, BuildsList, BuildsItem, BuildsText};
 ghost use Rattle.documents.specs.Answers.{ReadInto, WritesBack};
 ghost use Rattle.documents.specs.Grammar.{TextsAreUnambiguous, WrongAtOnePlace};
-ghost use Rattle.documents.specs.Reading.{ReadingIsOne, ReadIsSpelled};
+ghost use Rattle.documents.specs.Nodes.{NodesStandForDocuments};
+ghost use Rattle.documents.specs.Reading.{ReadingIsOne, LevelsAreOpened, ReadIsSpelled};
 
 use super::faults::ReadFault;
 use super::nodes::{MAX_DOCUMENT, MAX_NODES, Node};
 use super::scan::judge;
 use forms::bytes::digit;
 
-// What reading has come to: the rest of the text, how many nodes are used, and the number of the last one.
+/// What reading has come to: the rest of the text, how many nodes are used, and the number of the last one.
 #[derive(Clone, Copy)]
 pub struct Reached<'a> {
     rest: &'a [u8],
@@ -41,7 +42,7 @@ fn after(text: &[u8], byte: u8) -> Option<&[u8]>
 }
 
 // The number that a text begins with, of one digit or two, and the text behind it.
-// As it is: the text has been judged, so a number stands there, and `None` would ask for an answer that never comes.
+// The text has been judged, so a number stands there; what is answered where none does is never used.
 fn number(text: &[u8]) -> (u8, &[u8])
     ensures within { length result.1.now ≤ length text.now }
     ensures reads { ReadsNumber text.now result.0 result.1.now }
@@ -62,7 +63,6 @@ fn number(text: &[u8]) -> (u8, &[u8])
 }
 
 // Writes a node, where there is room.
-// As it is: tried with `get_mut` and a write through what it lends, and the proof did not close.
 fn put(nodes: &mut [Node], used: usize, node: Node)
     ensures { nodes.new ≡ slice_set nodes.old used node }
 {
@@ -94,7 +94,8 @@ fn close<'a>(nodes: &mut [Node], label: u8, inside: u16, last: Reached<'a>) -> R
 }
 
 // A list: a reference, or an element, or an element, a comma and a list.
-// As it is: a struct of the text, the nodes and their count would hold a `&mut`, and each contract would say too that it stays the same one.
+//
+// `list` and `item` call each other as lists and items of the grammar hold each other, with fewer bytes left at each call. They are to stay two such functions, and no loop over a stack of open brackets: the contract of each names the part of the grammar that it reads. The text, the nodes and their count go in side by side, since a struct of them would hold a `&mut`, and each contract would have to say that it is still the same.
 #[cycle(item_list)]
 fn list<'a>(text: &'a [u8], nodes: &mut [Node], used: usize) -> Reached<'a>
     requires { Ready text.now used }
@@ -187,16 +188,17 @@ fn too_many(count: usize, buffer: usize) -> bool
     count > buffer.min(MAX_NODES)
 }
 
-// Reads a text into the front of a buffer of nodes, and answers how many they are. Node 0 is void; an element's inside nodes come
-// first, then its following nodes, then its own; the last is the root.
-#[tactic(auto, using(crate::proofs::Reading::reading_is_one, crate::proofs::Levels::read_is_spelled, crate::proofs::Texts::texts_are_unambiguous))]
+/// Reads a text into the front of a buffer of nodes, and answers how many they are. Node 0 is void; an element's inside nodes come first, then its following nodes, then its own; the last is the root (`nodes_for`).
+///
+/// The nodes go into the caller's slice, in place, and what lies behind them there stays: callers bring the memory, and may keep other things in its rest.
+///
+/// # Errors
+///
+/// 40, then 41 or 43, whichever is at the lower place, then 44 (`ReadFault`). A refusal leaves the buffer as it was.
 pub fn read_document(text: &[u8], nodes: &mut [Node]) -> Result<usize, ReadFault>
     ensures read { ReadInto text.now nodes.old nodes.new result }
     ensures back { WritesBack text.now nodes.new result }
-    ensures one { ReadingIsOne }
-    ensures whole { ReadIsSpelled }
-    ensures plain { TextsAreUnambiguous }
-    ensures place { WrongAtOnePlace }
+    ensures laws { ReadingIsOne × ReadIsSpelled × TextsAreUnambiguous × WrongAtOnePlace × LevelsAreOpened × NodesStandForDocuments }
 {
     if text.len() > MAX_DOCUMENT {
         return Err(ReadFault::TooLong);

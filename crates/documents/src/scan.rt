@@ -1,6 +1,6 @@
 // A scan of document text, byte by byte: where it goes on, how deep its brackets are, and how many nodes it takes.
-ghost use Rattle.std.specs.Prelude.{◌≡◌, ◌+◌, ◌-◌, ◌*◌, ◌≤◌, if◌then◌else◌};
-ghost use Rattle.documents.specs.Limits.{max_levels};
+ghost use Rattle.std.specs.Prelude.{◌≡◌, ◌+◌, ◌-◌, ◌*◌, ◌≤◌, length, if◌then◌else◌};
+ghost use Rattle.documents.specs.Limits.{max_document, max_levels};
 ghost use Rattle.documents.specs.Scan.{at, may_end, may_follow, closed, begun, moved, step, is_whole};
 ghost use Rattle.documents.specs.declared.scan.Phase.TheVariants.{MayBegin as may_begin};
 ghost use Rattle.documents.specs.Judged.{JudgedAs, marks};
@@ -12,24 +12,24 @@ use forms::{LABELS, MAX_ROWS};
 // Brackets stand in brackets at most so deep.
 const MAX_LEVELS: usize = 64;
 
-// Where in a list the scan is.
+/// Where in a list the scan is.
 #[derive(Clone, Copy)]
 pub enum Phase {
-    // a list or nothing may come
+    /// a list or nothing may come
     MayBegin,
-    // a list must come
+    /// a list must come
     MustBegin,
-    // after digits of a label, which make this number
+    /// after digits of a label, which make this number
     InLabel(u8),
-    // after @
+    /// after @
     AfterAt,
-    // after digits of a row number, which make this number
+    /// after digits of a row number, which make this number
     InRow(u8),
+    /// after the bracket that closes an element
     AfterElement,
 }
 
-// Where a scan is: how many brackets are open, and where in a list it goes on.
-// As it is: no ghost member bounds the level, since a step may go one level too deep, and is told to be a fault only then.
+/// Where a scan is: how many brackets are open, and where in a list it goes on. The level may be one too deep: whoever takes the step tells then that this is a fault.
 #[derive(Clone, Copy)]
 pub struct Scan {
     level: usize,
@@ -148,8 +148,9 @@ fn nodes_of(byte: u8) -> usize
     usize::from(byte == b'[' || byte == b'@')
 }
 
-// Goes through a text once, and answers how many nodes its document takes. The first node of every table is void.
+/// Goes through a text of at most 32,768 bytes once, and answers how many nodes its document takes, the void node in front among them; or 41 or 43, whichever is at the lower place.
 pub fn judge(text: &[u8]) -> Result<usize, ReadFault>
+    requires { length text.now ≤ max_document }
     ensures { JudgedAs text.now result }
 {
     let mut scan = Scan {
@@ -158,15 +159,18 @@ pub fn judge(text: &[u8]) -> Result<usize, ReadFault>
     };
     let mut nodes = 1;
     for (place, byte) in text.iter().enumerate() {
-        scan = scan.next(*byte).ok_or(ReadFault::Wrong { place })?;
+        let here = place as u16;
+        scan = scan.next(*byte).ok_or(ReadFault::Wrong { place: here })?;
         if scan.level > MAX_LEVELS {
-            return Err(ReadFault::TooDeep { place });
+            return Err(ReadFault::TooDeep { place: here });
         }
         nodes += nodes_of(*byte);
     }
     if scan.is_whole() {
         Ok(nodes)
     } else {
-        Err(ReadFault::Wrong { place: text.len() })
+        Err(ReadFault::Wrong {
+            place: text.len() as u16,
+        })
     }
 }

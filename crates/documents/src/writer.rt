@@ -1,21 +1,22 @@
 // Writing the document of a node as text.
-ghost use Rattle.std.specs.Prelude.{◌≡◌, ℕ, ◌<◌, length, Decides, MatchOption, MatchResult};
+ghost use Rattle.std.specs.Prelude.{◌≡◌, ℕ, ◌<◌, ◌≤◌, length, Decides, MatchOption, MatchResult};
 ghost use Rattle.forms.specs.Places.{Lowest};
 ghost use Rattle.forms.specs.Splices.{Wrote};
 ghost use Rattle.forms.specs.Documents.{Document};
 ghost use Rattle.documents.specs.declared.faults.WriteFault.TheVariants.{Unsound as unsound_node};
-ghost use Rattle.documents.specs.Grammar.{spelled_document};
+ghost use Rattle.documents.specs.Limits.{max_nodes};
+ghost use Rattle.documents.specs.Grammar.{spelled_document, TextsAreSpelled};
 ghost use Rattle.documents.specs.Facts.{sound_is_fact};
-ghost use Rattle.documents.specs.Nodes.{SoundAt, Sound, StandsFor};
+ghost use Rattle.documents.specs.Nodes.{SoundAt, Sound, StandsFor, NodesStandForOne};
 ghost use Rattle.documents.specs.Spelling.{rest, Shaped};
 ghost use Rattle.documents.specs.Answers.{WrittenInto, ReadsBack};
-ghost use Rattle.documents.specs.Writing.{Unsound, WritingDocumentsIsOne};
+ghost use Rattle.documents.specs.Writing.{Unsound, WritingDocumentsIsOne, ReadIsWrittenBack};
 
 use super::faults::WriteFault;
 use super::nodes::{MAX_DOCUMENT, MAX_NODES, Node};
 use forms::bytes::{digits, put, put_number};
 
-// A node by its text: none, an address, or an element with what follows it, if its text is not empty.
+/// A node by its text: none, an address, or an element with what follows it, if its text is not empty.
 #[derive(Clone, Copy)]
 pub enum Shape {
     Empty,
@@ -47,16 +48,16 @@ struct Table<'a> {
 impl<'a> Table<'a> {
     // A table of these nodes, or the lowest one that is not sound.
     fn new(nodes: &'a [Node]) -> Result<Table<'a>, WriteFault>
+        requires { length nodes.now ≤ max_nodes }
         ensures { MatchResult result (λ t. t.nodes.now ≡ nodes.now) (λ e. (k : ℕ) × (e ≡ unsound_node k) × Lowest (Unsound nodes.now) k) }
     {
         match unsound(nodes) {
-            Some(node) => Err(WriteFault::Unsound { node }),
+            Some(node) => Err(WriteFault::Unsound { node: node as u16 }),
             None => Ok(Table { nodes }),
         }
     }
 
     // What the text of node k is made of.
-    // As it is: that there is a node k is asked three times; a struct of a table and a number would be made anew for each part of each node.
     fn look(&self, k: u16) -> Shape
         requires { k < length self.now.nodes.now }
         ensures { Shaped self.now.nodes.now k result }
@@ -78,7 +79,7 @@ impl<'a> Table<'a> {
     }
 
     // The room left after the text of node k, or none if it is longer. It stops once the room is spent, however long the text is.
-    // As it is: a text that is too long leaves the buffer as it was, so its length is known before a byte of it is written.
+    // A text that is too long leaves the buffer as it was, so its length is known before a byte of it is written.
     fn measure(&self, k: u16, room: usize) -> Option<usize>
         requires { k < length self.now.nodes.now }
         ensures { (x : Document) → StandsFor self.now.nodes.now k x → result ≡ rest room (length (spelled_document x)) }
@@ -97,8 +98,9 @@ impl<'a> Table<'a> {
         }
     }
 
-    // Writes the text of node k from a place on, where there is room, and answers the place behind it. Shared nodes are written again.
-    // As it is: the buffer and the place go in and out as in `forms::bytes`; a writer would add a clause to the contract.
+    // Writes the text of node k from a place on, where there is room, and answers the place behind it.
+    //
+    // It calls itself for the inside and for what follows, whose numbers are lower, and is to stay so: the text of a node is made of theirs, and a node that several share is written again for each of them.
     fn write(&self, k: u16, out: &mut [u8], place: usize) -> usize
         requires { k < length self.now.nodes.now }
         ensures { (x : Document) → StandsFor self.now.nodes.now k x → Wrote out.old out.new place (spelled_document x) result }
@@ -126,11 +128,15 @@ impl<'a> Table<'a> {
     }
 }
 
-// Writes the document that the node `root` stands for as text at the front of a buffer, and answers the text's length.
+/// Writes the document that the node `root` stands for as text at the front of a buffer, and answers the text's length in bytes; the rest of the buffer stays.
+///
+/// # Errors
+///
+/// 30, 31, 32 and 45, the first of them that holds (`WriteFault`). A refusal leaves the buffer as it was.
 pub fn write_document(nodes: &[Node], root: usize, buffer: &mut [u8]) -> Result<usize, WriteFault>
     ensures written { WrittenInto nodes.now root buffer.old buffer.new result }
     ensures back { ReadsBack nodes.now root buffer.new result }
-    ensures one { WritingDocumentsIsOne }
+    ensures laws { WritingDocumentsIsOne × TextsAreSpelled × NodesStandForOne × ReadIsWrittenBack }
 {
     if nodes.len() > MAX_NODES {
         return Err(WriteFault::ManyNodes);

@@ -149,28 +149,30 @@ fn numbers(rt: HostRuntime) {
     assert_eq!(rt; ReadFault::TooManyNodes.number(), 44);
 }
 
+// What each fault says, with its number.
 #[test]
 fn words(rt: HostRuntime) -> Result<(), Fail> {
-    let alloc = rt.alloc();
-    let long = format!(in alloc; "{}", ReadFault::TooLong)?;
-    assert_eq!(rt;
-        long.as_str(),
-        "this is no order (40): it has more than 32,768 bytes"
-    );
-    let wrong = format!(in alloc; "{}", ReadFault::Wrong { place: 7 })?;
-    assert_eq!(rt;
-        wrong.as_str(),
-        "this is no order (41): at place 7 no order goes on so"
-    );
-    let deep = format!(in alloc; "{}", ReadFault::TooDeep { place: 7 })?;
-    assert_eq!(rt;
-        deep.as_str(),
-        "this order is too deep (43): the bracket at place 7 opens a 65th level"
-    );
-    let large = format!(in alloc; "{}", ReadFault::TooManyNodes)?;
-    assert_eq!(rt;
-        large.as_str(),
-        "this order is too large (44): it takes more than 4160 nodes"
-    );
+    let cases = [
+        (
+            ReadFault::TooLong,
+            "this is no order (40): it has more than 32,768 bytes",
+        ),
+        (
+            ReadFault::Wrong { place: 32768 },
+            "this is no order (41): at place 32768 no order goes on so",
+        ),
+        (
+            ReadFault::TooDeep { place: 129 },
+            "this order is too deep (43): the bracket at place 129 opens a 65th level",
+        ),
+        (
+            ReadFault::TooManyNodes,
+            "this order is too large (44): it takes more nodes than the buffer has, or more than 4160",
+        ),
+    ];
+    for (fault, words) in &cases {
+        let told = format!(in rt.alloc(); "{fault}")?;
+        assert_eq!(rt; told.as_str(), *words);
+    }
     Ok(())
 }

@@ -175,18 +175,30 @@ fn numbers(rt: HostRuntime) {
     assert_eq!(rt; WriteFault::TooLong.number(), 45);
 }
 
+// What each fault says, with its number.
 #[test]
 fn words(rt: HostRuntime) -> Result<(), Fail> {
-    let alloc = rt.alloc();
-    let many = format!(in alloc; "{}", WriteFault::ManyNodes)?;
-    assert_eq!(rt;
-        many.as_str(),
-        "the order cannot be written (30): there are more than 4160 nodes"
-    );
-    let outside = format!(in alloc; "{}", WriteFault::RootOutside)?;
-    assert_eq!(rt;
-        outside.as_str(),
-        "the order cannot be written (32): the root is not one of the nodes"
-    );
+    let cases = [
+        (
+            WriteFault::ManyNodes,
+            "the order cannot be written (30): there are more than 4160 nodes",
+        ),
+        (
+            WriteFault::Unsound { node: 4159 },
+            "the order cannot be written (31): node 4159 is not sound: an element has a label up to 63 and points at two lower nodes, and a reference is to a row up to 63",
+        ),
+        (
+            WriteFault::RootOutside,
+            "the order cannot be written (32): the root is not one of the nodes",
+        ),
+        (
+            WriteFault::TooLong,
+            "the order cannot be written (45): the text is longer than the buffer, or than 32,768 bytes",
+        ),
+    ];
+    for (fault, words) in &cases {
+        let told = format!(in rt.alloc(); "{fault}")?;
+        assert_eq!(rt; told.as_str(), *words);
+    }
     Ok(())
 }

@@ -1,7 +1,7 @@
 -- Row buffers as they are filled. Assumes nothing.
-use Rattle.std.proofs.Common.{◌≡◌, ℕ, ◌+◌, ◌<◌, ◌≤◌, true, ltb, List, [], ◌∷◌, ◌++◌, length, get_or, take, set, replicate, sym, ap, ◌∙◌, ⊎_elim, arith, length-take}
-use Rattle.std.proofs.lemmas.Bool.{cases_eq, cases_lt, cond-true, lt-ltb}
-use Rattle.std.proofs.lemmas.List.{take_more, get_or-set_same, get_or-set_other, get_or-replicate, get_or_past}
+use Rattle.std.proofs.Common.{◌≡◌, ℕ, ◌+◌, ◌<◌, ◌≤◌, true, ltb, List, [], ◌∷◌, ◌++◌, length, get_or, take, set, sym, ap, ◌∙◌, ⊎_elim, arith, length-take}
+use Rattle.std.proofs.lemmas.Bool.{cases_eq, cond-true, lt-ltb}
+use Rattle.std.proofs.lemmas.List.{take_more, get_or-set_same, get_or-set_other}
 use Rattle.forms.specs.declared.Row.{Row}
 use Rattle.forms.specs.declared.Row.TheVariants.{Void}
 use Rattle.forms.specs.declared.buffer.RowBuffer.{RowBuffer}
@@ -27,12 +27,6 @@ copied_more rows held i row h le e is =
     let l : length held < max_rows = omega (arith, ap length e, length-take i rows) in
     pushed_is held row l ∙ ap (λ x. x ++ (row ∷ [])) e ∙ ap (λ x. take i rows ++ (x ∷ [])) is ∙ sym (take_more rows i Void h)
 
--- the same of a buffer, before and after the push
+-- and so of a buffer, before and after the push
 pub buffer_copied_more : (rows : List Row) (i : ℕ) (row : Row) (before after now : RowBuffer) → i < length rows → length rows ≤ max_rows → rows_of before ≡ take i rows → row ≡ get_or rows i Void → rows_of after ≡ pushed (rows_of before) row → now ≡ after → rows_of now ≡ take (i + 1) rows
 buffer_copied_more rows i row before after now h le e is push same = ap rows_of same ∙ push ∙ copied_more rows (rows_of before) i row h le e is
-
-pub all_void : (k : ℕ) → get_or (replicate max_rows Void) k Void ≡ Void
-all_void k = ⊎_elim
-    (λ lt. get_or-replicate max_rows k Void Void lt)
-    (λ le. get_or_past (replicate max_rows Void) k Void le)
-    (cases_lt k max_rows)

@@ -1,6 +1,7 @@
 -- What rows are, and what the sources above other sources mean. Assumes nothing.
-use Rattle.std.specs.Prelude.{ℕ, ◌+◌, ◌/◌, ◌%◌, ◌^◌, ◌<◌, ◌≤◌, Bool, true, cond, ◌&&◌, List, [], ◌++◌, map, length, ◌==◌, nat_le, nat_lt}
+use Rattle.std.specs.Prelude.{ℕ, ◌+◌, ◌^◌, ◌<◌, ◌≤◌, Bool, true, cond, ◌&&◌, List, [], ◌++◌, map, length, nat_le, nat_lt}
 use Rattle.std.specs.List.{AllByRecursion}
+use Rattle.sets.specs.Sets.{bit}
 use Rattle.forms.specs.declared.Row.{Row}
 use Rattle.forms.specs.declared.Row.TheVariants.{Void, Nothing, Channel, Element, Union}
 use Rattle.forms.specs.declared.Capability.{Capability}
@@ -9,7 +10,7 @@ use Rattle.forms.specs.Limits.{max_rows, numbers, past_table, label_count}
 
 -- label k belongs to the label set s: bit k of s is set
 abbrev pub belongs : ℕ → ℕ → Bool
-belongs k s = s / 2 ^ k % 2 == 1
+belongs k s = bit s k
 
 -- the row's numbers are below n
 abbrev pub NumbersBelow : ℕ → Row → Type 0
@@ -31,7 +32,7 @@ Labelled (Union l r) = Unit {0}
 abbrev pub Fit : Row → Type 0
 Fit row = NumbersBelow numbers row × Labelled row
 
--- the same as a test
+-- whether it is, as a test
 abbrev pub fits : Row → Bool
 fits Void = true
 fits Nothing = true
@@ -64,7 +65,7 @@ shift n m (Union p q) = Union (raised n m p) (raised n m q)
 abbrev pub sides : List Row → List Row → List Row
 sides a b = map (shift 0 (length a)) a ++ map (shift (length a) (length b)) b
 
--- the same, or none if they have too many rows together
+-- they, or no rows if there are too many together
 abbrev pub joined : List Row → List Row → List Row
 joined a b = cond (nat_le (length a + length b) max_rows) (sides a b) []
 

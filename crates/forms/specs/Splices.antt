@@ -9,6 +9,6 @@ spliced old p s = take p old ++ (s ++ drop (p + length s) old)
 abbrev pub Wrote : {A : Type 0} → List A → List A → ℕ → List A → ℕ → Type 0
 Wrote old new p s r = p + length s ≤ length old → (r ≡ p + length s) × (new ≡ spliced old p s)
 
--- the same, and where there was no room nothing changed, and r is p
+-- s was written, or where there was no room for it nothing changed, and r is p
 abbrev pub Puts : {A : Type 0} → List A → List A → ℕ → List A → ℕ → Type 0
 Puts old new p s r = Wrote old new p s r × (length old < p + length s → (r ≡ p) × (new ≡ old))

@@ -6,8 +6,7 @@ ghost use Rattle.forms.specs.Rows.{fits};
 
 use super::{MAX_ROWS, Row};
 
-// The first `count` rows of `table`.
-// As it is: the rows have fixed memory, by the project's rule. Its ghost members say what they are; an ArrayVec of the kit would need a struct around it to say the same.
+/// A table of at most 64 rows: the first `count` of `table`. They lie in memory of a fixed size, since no table takes any from a heap.
 #[derive(Drop)]
 pub struct RowBuffer {
     table: [Row; MAX_ROWS],

@@ -2,8 +2,9 @@
 ghost use Rattle.std.specs.Prelude.{◌≡◌, ℕ, ◌+◌, ◌<◌, ◌≤◌, [], ◌∷◌, length, decimal, MatchOption};
 ghost use Rattle.forms.specs.Splices.{Wrote, Puts};
 
-// Writes a byte and answers the place behind it; no change, and the place itself, where there is no room.
-// As it is: a writer that holds the slice was tried; each contract then needs a clause more, that it still holds the same slice.
+/// Writes a byte and answers the place behind it; no change, and the place itself, where there is no room.
+///
+/// The buffer and the place go in, and the place behind what was written comes out. A writer that holds the slice would have each contract say as well that it still holds the same one.
 pub fn put(out: &mut [u8], place: usize, byte: u8) -> usize
     ensures { Puts out.old out.new place (byte ∷ []) result }
 {
@@ -14,7 +15,7 @@ pub fn put(out: &mut [u8], place: usize, byte: u8) -> usize
     place + 1
 }
 
-// The number that a digit stands for.
+/// The number that a digit stands for, or none where the byte is no digit.
 pub fn digit(byte: u8) -> Option<u8>
     ensures { MatchOption result ((d : ℕ) → (d < 10) × (byte ≡ 48 + d) → ⊥) (λ d. (d < 10) × (byte ≡ 48 + d)) }
 {
@@ -24,8 +25,7 @@ pub fn digit(byte: u8) -> Option<u8>
     }
 }
 
-// How many digits a number has.
-// As it is: what is written must fit before its first byte is put, so its length is asked for alone, and the writing of a row and of a document ask for it too.
+/// How many digits a number has, 1 to 3. What is written must fit before its first byte is put, so whoever measures a text asks for this alone.
 #[tactic(auto, using(crate::proofs::Decimals::one_digit, crate::proofs::Decimals::two_digits, crate::proofs::Decimals::three_digits))]
 pub fn digits(number: u8) -> usize
     ensures value { result ≡ length (decimal number) }
@@ -51,7 +51,7 @@ fn put_digits(out: &mut [u8], place: usize, number: u8) -> usize
     put(out, next, b'0' + number % 10)
 }
 
-// Writes a number and answers the place behind it; no change, and the place itself, where there is no room for all its digits.
+/// Writes a number in decimal and answers the place behind it; no change, and the place itself, where there is no room for all its digits.
 pub fn put_number(out: &mut [u8], place: usize, number: u8) -> usize
     ensures { Puts out.old out.new place (decimal number) result }
 {

@@ -6,8 +6,7 @@ ghost use Rattle.forms.specs.Laws.{joined_laws, turned_laws};
 
 use super::{Capability, FormSource, MAX_ROWS, Row};
 
-// What stands for a row number that lies past its own table.
-// As it is: the numbers in a row are bytes by the format, and 255 is no row's.
+// What stands for a row number that lies past its own table: no row has this number.
 const PAST: u8 = 255;
 
 fn raise(by: u8, own: usize, number: u8) -> u8
@@ -41,8 +40,9 @@ fn shifted(by: u8, own: usize, row: Row) -> Row
     }
 }
 
-// Two sources side by side: the second's numbers rise by the first's count. No rows if there are more than 64 together.
-// As it is: making a source never refuses, by the project's rule, and a table without rows is one that admission refuses.
+/// Two sources side by side: the second's numbers rise by the first's count, and a number past its own table becomes 255. No rows if there are more than 64 together: making a source never refuses, and a table without rows is one that admission refuses.
+///
+/// It holds the two by value, of whichever makes they are, and is a source itself: so sources nest, and whoever holds one holds all below it.
 #[derive(Drop)]
 pub struct Joined<A, B> {
     pub first: A,
@@ -85,7 +85,7 @@ fn swapped(row: Row) -> Row
     }
 }
 
-// A source with in and out swapped in each channel row.
+/// A source with in and out swapped in each channel row: the table as the other party sees it.
 #[derive(Drop)]
 pub struct Turned<S> {
     pub source: S,

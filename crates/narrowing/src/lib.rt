@@ -7,13 +7,14 @@ ghost use Rattle.narrowing.specs.Narrowing.{Lawful, Narrowed, Round};
 
 use sets;
 
-// Says yes or no to a place, given a set of places.
+/// Says yes or no to a place, given a set of places. Whoever makes one shows that a larger set never turns a yes into a no.
 pub trait Rule {
     ghost says: { Self → (ℕ → Bool) → ℕ → Bool };
 
     // a larger set never turns a yes into a no
     ghost lawful: { (s : Self) → Lawful (says s) };
 
+    /// The answer for one place.
     fn ask(&self, place: usize, set: &[u64]) -> bool
         ensures { result ≡ says self.now (member set.now) place };
 }
@@ -23,7 +24,7 @@ fn round<R: Rule>(rule: &R, set: &mut [u64]) -> bool
     ensures { Round (R.says rule.now) set.old set.new result }
 {
     let mut struck = false;
-    // As it is: the set loses members while it is gone through, so no iterator can hold it.
+    // The set loses members while it is gone through, so no iterator can hold it.
     let mut from = 0;
     while let Some(place) = sets::next(set, from) {
         if !rule.ask(place, set) {
@@ -35,7 +36,7 @@ fn round<R: Rule>(rule: &R, set: &mut [u64]) -> bool
     struck
 }
 
-// Leaves of the set its largest part each member of which gets a yes from that part.
+/// Leaves of the set its largest part each member of which gets a yes from that part (`Narrowed`), for every lawful rule.
 pub fn narrow<R: Rule>(rule: &R, set: &mut [u64])
     ensures { Narrowed (R.says rule.now) (member set.old) (member set.new) }
 {

@@ -1,5 +1,6 @@
 -- Sets of numbers, kept as bits of 64-bit words. Assumes nothing.
 use Rattle.std.specs.Prelude.{◌≡◌, ℕ, zero, suc, ◌+◌, ◌/◌, ◌%◌, ◌^◌, ◌<◌, ◌≤◌, Bool, true, false, cond, ◌&&◌, List, Option, MatchOption, ◌==◌, nat_lt, slice_index}
+use Rattle.std.specs.Int.{bit_at}
 
 -- a word has so many bits
 abbrev pub word : ℕ
@@ -7,7 +8,7 @@ word = 64
 
 -- bit k of n is set
 abbrev pub bit : ℕ → ℕ → Bool
-bit n k = n / 2 ^ k % 2 == 1
+bit n k = bit_at n k == 1
 
 -- members are below this, so that each and the next number can be named in a machine word
 abbrev pub top : ℕ

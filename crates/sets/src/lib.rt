@@ -5,7 +5,7 @@ ghost use Rattle.std.specs.Prelude.{◌≡◌, ℕ, ◌-◌, ◌*◌, ◌^◌, �
 ghost use Rattle.std.specs.Iterator.{at_most};
 ghost use Rattle.sets.specs.Sets.{word, top, member, tally, Next, GoesOn};
 
-// How many members a word has room for.
+/// How many members a word has room for.
 pub const WORD: usize = 64;
 
 // Members are below this.
@@ -22,7 +22,7 @@ fn bits(n: u64) -> usize
     n.count_ones() as usize
 }
 
-// Whether k belongs to the set.
+/// Whether k belongs to the set: bit k mod 64 of word k div 64. Numbers from 2^63 on belong to none.
 pub fn test(words: &[u64], k: usize) -> bool
     ensures { result ≡ member words.now k }
 {
@@ -33,7 +33,7 @@ pub fn test(words: &[u64], k: usize) -> bool
     (words[i] >> (k % WORD)) % 2 == 1
 }
 
-// Adds k; where the words have no room for k, nothing changes.
+/// Adds k; where the words have no room for k, nothing changes.
 pub fn put(words: &mut [u64], k: usize)
     ensures within { k < word * length words.old → k < top → (j : ℕ) → member words.new j ≡ (j == k || member words.old j) }
     ensures past { (word * length words.old ≤ k) ⊎ (top ≤ k) → words.new ≡ words.old }
@@ -43,7 +43,7 @@ pub fn put(words: &mut [u64], k: usize)
     }
 }
 
-// Takes k away.
+/// Takes k away, if it belongs to the set.
 pub fn remove(words: &mut [u64], k: usize)
     ensures { (j : ℕ) → member words.new j ≡ (if nat_eq j k then false else member words.old j) }
 {
@@ -52,7 +52,7 @@ pub fn remove(words: &mut [u64], k: usize)
     }
 }
 
-// The numbers below n, as far as there is room for them.
+/// The set of the numbers below n, as far as `W` words have room for them.
 pub fn first<const W: usize>(n: usize) -> [u64; W]
     ensures each { (j : ℕ) → Decides (member result j) ((j < n) × (j < word * W) × (j < top)) }
     ensures all { n ≤ word * W → n ≤ top → (j : ℕ) → member result j ≡ nat_lt j n }
@@ -71,7 +71,7 @@ fn filled(words: &[u64]) -> Option<usize>
     words.iter().position(|word| *word != 0)
 }
 
-// The lowest member not before the start, if there is one. A word without members costs one step.
+/// The lowest member not before the start, if there is one (`Next`). A word without members costs one step.
 pub fn next(words: &[u64], start: usize) -> Option<usize>
     ensures { Next (member words.now) start result }
 {
@@ -88,7 +88,7 @@ pub fn next(words: &[u64], start: usize) -> Option<usize>
     Some(i * WORD + words[i].trailing_zeros() as usize)
 }
 
-// How many members the set has.
+/// How many members the set has.
 pub fn count(words: &[u64]) -> usize
     ensures { result ≡ tally (member words.now) (word * length words.now) }
 {
@@ -109,21 +109,21 @@ fn overlaps(words: &[u64], others: &[u64]) -> bool
         .any(|(word, other)| *word & *other != 0)
 }
 
-// Whether two sets have a member in common.
+/// Whether two sets have a member in common.
 pub fn meet(words: &[u64], others: &[u64]) -> bool
     ensures { Decides result ((k : ℕ) × (member words.now k ≡ true) × (member others.now k ≡ true)) }
 {
     overlaps(&words[..words.len().min(MOST)], others)
 }
 
-// Adds the members of another set, as far as there is room for them, and answers how many are new.
+/// Adds the members of another set, as far as there is room for them, and answers how many are new.
 pub fn join(words: &mut [u64], others: &[u64]) -> usize
     ensures members { (j : ℕ) → member words.new j ≡ (member words.old j || (nat_lt j (word * length words.old) && member others.now j)) }
     ensures new { result ≡ tally (λ j. member others.now j && not (member words.old j)) (word * length words.old) }
 {
     let mut total = 0;
     let end = words.len().min(others.len()).min(MOST);
-    // As it is: tried with `iter_mut` and `zip`; what is written through them is not known behind the loop.
+    // By number: what is written through `iter_mut` and `zip` is not known behind the loop.
     for (i, other) in others[..end].iter().enumerate() {
         let all = words[i] | *other;
         total += bits(all ^ words[i]);
@@ -132,7 +132,7 @@ pub fn join(words: &mut [u64], others: &[u64]) -> usize
     total
 }
 
-// Goes through the members of a set, from the lowest to the highest.
+/// Goes through the members of a set, from the lowest to the highest.
 #[derive(Clone, Copy)]
 pub struct Members<'a> {
     words: &'a [u64],
@@ -140,7 +140,7 @@ pub struct Members<'a> {
 }
 
 impl<'a> Members<'a> {
-    // All members of a set.
+    /// All members of a set.
     pub fn of(words: &'a [u64]) -> Members<'a>
         ensures set { result.words.now ≡ words.now }
         ensures start { result.start ≡ 0 }

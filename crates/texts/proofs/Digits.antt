@@ -11,9 +11,10 @@ use Rattle.forms.specs.Limits.{max_rows}
 use Rattle.texts.specs.Limits.{label_digits}
 use Rattle.texts.specs.RowText.{HexDigit, digit_in_hex, hexadecimal}
 use Rattle.texts.specs.Reading.{Told, OfNumber, OfLabels}
-use Rattle.texts.proofs.Numbers.{Figures, figures, length_hexadecimal, hexadecimal_is, hex_digit_value, sixteen}
+use Rattle.forms.proofs.Decimals.{Figures, figures}
+use Rattle.texts.proofs.Numbers.{length_hexadecimal, hexadecimal_is, hex_digit_value, sixteen}
 use Rattle.std.proofs.lemmas.Nat.{div-mul-add, mod-mul-add}
-use Rattle.texts.proofs.Numbers.Figures.{one, two}
+use Rattle.forms.proofs.Decimals.Figures.{one, two}
 
 -- a list of one, and of two
 pub list_of_one : (f : List ℕ) → length f ≡ 1 → f ≡ get_or f 0 0 ∷ []

@@ -17,8 +17,9 @@ use Rattle.texts.specs.Faults.{text_refusal}
 use Rattle.texts.specs.Limits.{max_text, label_digits}
 use Rattle.texts.specs.RowText.Judged.{is_long, is_wrong, is_more, is_right}
 use Rattle.forms.proofs.Findings.{never}
-use Rattle.texts.proofs.Numbers.{Figures, figures, length_hexadecimal}
-use Rattle.texts.proofs.Numbers.Figures.{one, two}
+use Rattle.forms.proofs.Decimals.{Figures, figures}
+use Rattle.texts.proofs.Numbers.{length_hexadecimal}
+use Rattle.forms.proofs.Decimals.Figures.{one, two}
 use Rattle.texts.proofs.RightLines.{row_line, line_row, fields_one, rows_line_one, RightLine, line_or_wrong, fewer_fields}
 
 -- LENGTH
@@ -170,5 +171,5 @@ pub judgement_is_one : JudgementIsOne
 judgement_is_one bytes = let (o, j) = judged bytes in (o, j, λ p j'. same bytes j j')
 
 -- what every call of reading brings
-pub text_laws : JudgementIsOne × (RightIsSpelled × SpelledIsShort)
-text_laws = (judgement_is_one, (right_is_spelled, spelled_is_short))
+pub text_laws : JudgementIsOne × RightIsSpelled × SpelledIsShort
+text_laws = (judgement_is_one, right_is_spelled, spelled_is_short)

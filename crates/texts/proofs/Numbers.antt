@@ -1,27 +1,12 @@
--- Row numbers in decimal, and numbers of 64 bits in hexadecimal.
+-- Which bytes are a row number, and numbers of 64 bits in hexadecimal.
 use Rattle.std.proofs.Common.{◌≡◌, ℕ, zero, suc, ◌+◌, ◌-◌, ◌*◌, ◌/◌, ◌%◌, ◌^◌, ◌<◌, ◌≤◌, List, [], ◌∷◌, length, decimal, refl, ap, inl, inr, ⊎_elim, mod-lt, pow-suc, div-add-mod', arith}
 use Rattle.std.specs.List.{AllByRecursion}
-use Rattle.std.proofs.lemmas.Fmt.{decimal_digit, decimal_step, decimal_injective}
 use Rattle.std.proofs.lemmas.Nat.{mul-add-lt, div-mul-add, mod-mul-add, div_below}
 use Rattle.std.proofs.lemmas.Bool.{cases_lt, lt-ltb, le-ltb}
 use Rattle.std.proofs.lemmas.Bool.Decides.{nat_tests}
 use Rattle.forms.specs.Limits.{max_rows}
 use Rattle.texts.specs.RowText.{HexDigit, digit_in_hex, hexadecimal}
 use Rattle.forms.proofs.Findings.{Decided, least_below, same_or_not}
-
--- one digit, or two of which the first is not 0
-pub data Figures (n : ℕ) : List ℕ → Type 0 where
-  one : n < 10 → Figures n ((48 + n) ∷ [])
-  two : 1 ≤ n / 10 → n / 10 < 10 → Figures n ((48 + n / 10) ∷ (48 + n % 10) ∷ [])
-
-pub figures : (n : ℕ) → n < max_rows → Figures n (decimal n)
-figures n h = ⊎_elim
-    (λ small. rw (decimal_digit n small) (one small))
-    (λ large. let s : n < 2 ^ 64 = omega arith in let t : n / 10 < 10 = omega arith in let u : 1 ≤ n / 10 = omega arith in rw (decimal_step n large s, decimal_digit (n / 10) t) (two u t))
-    (cases_lt n 10)
-
-pub decimal_one : {m n : ℕ} → m < max_rows → n < max_rows → decimal m ≡ decimal n → m ≡ n
-decimal_one {m} {n} h g e = decimal_injective m n (omega arith) (omega arith) e
 
 pub number_or_not : (f : List ℕ) → Decided ((n : ℕ) × (n < max_rows) × (f ≡ decimal n))
 number_or_not f = ⊎_elim

@@ -66,3 +66,7 @@ pub right_rows_are_written : RightRowsAreWritten
 right_rows_are_written room rows text right short =
     let (few, all, e) = (right_is_spelled text rows).0 right in
     subst (λ t. WritesRows room rows (gives t)) (sym e) (is_written (proper_rows rows all) (omega (arith, ap length e)))
+
+-- what every call of writing brings
+pub writing_laws : WritingRowsIsOne × WrittenRowsAreRight × RightRowsAreWritten
+writing_laws = (writing_rows_is_one, written_rows_are_right, right_rows_are_written)

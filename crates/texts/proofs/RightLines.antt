@@ -3,7 +3,7 @@ use Rattle.std.proofs.Common.{◌≡◌, ℕ, zero, suc, ◌<◌, ◌≤◌, tru
 use Rattle.std.specs.List.{AllByRecursion}
 use Rattle.std.proofs.lemmas.List.{append_assoc}
 use Rattle.std.proofs.ByRecursion.{All-weaker}
-use Rattle.std.proofs.lemmas.Bool.{cases_eq, cases_lt}
+use Rattle.std.proofs.lemmas.Bool.{cases_eq}
 use Rattle.std.proofs.lemmas.Bool.Decides.{nat_tests}
 use Rattle.forms.specs.declared.Row.{Row}
 use Rattle.forms.specs.declared.Row.TheVariants.{Void, Nothing, Channel, Element, Union}
@@ -14,9 +14,10 @@ use Rattle.texts.specs.declared.kinds.Kind.{Kind}
 use Rattle.texts.specs.declared.kinds.Kind.TheVariants.{Void as void, Nothing as nothing, Channel as channel, Element as element, Union as union}
 use Rattle.texts.specs.Limits.{label_digits}
 use Rattle.texts.specs.RowText.Content.{the_letter, a_capability, a_label_set, a_number, no_bytes}
-use Rattle.forms.proofs.Findings.{never, Decided, both_or_not, same_or_not, all_or_not}
-use Rattle.texts.proofs.Numbers.{Figures, figures, decimal_one, number_or_not, length_hexadecimal, hexadecimal_is, hexadecimal_one, hexadecimal_value}
-use Rattle.texts.proofs.Numbers.Figures.{one, two}
+use Rattle.forms.proofs.Findings.{never, Decided, both_or_not, below_or_not, same_or_not, all_or_not}
+use Rattle.forms.proofs.Decimals.{Figures, figures, decimal_one}
+use Rattle.texts.proofs.Numbers.{number_or_not, length_hexadecimal, hexadecimal_is, hexadecimal_one, hexadecimal_value}
+use Rattle.forms.proofs.Decimals.Figures.{one, two}
 
 -- bytes without a comma or byte 10
 abbrev pub Plain : List ℕ → Type 0
@@ -219,12 +220,9 @@ rows_line_one r r' p p' s s' h =
 -- DECIDED
 hex_or_not : (b : ℕ) → Decided (HexDigit b)
 hex_or_not b = ⊎_elim
-    (λ low. ⊎_elim (λ d. inl (inl (low, omega arith))) (λ nd. ⊎_elim (λ l. ⊎_elim (λ h. inl (inr (l, omega arith))) (λ h. inr (λ d. absurd (omega arith))) (cases_lt b 103)) (λ nl. inr (λ d. absurd (omega arith))) (cases_le 97 b)) (cases_lt b 58))
-    (λ below. inr (λ d. absurd (omega arith)))
-    (cases_le 48 b)
-  where
-    cases_le : (m n : ℕ) → (m ≤ n) ⊎ (n < m)
-    cases_le m n = ⊎_elim inr inl (cases_lt n m)
+    (λ (l, h). inl (inl (omega arith, omega arith)))
+    (λ no-digit. ⊎_elim (λ (l, h). inl (inr (omega arith, omega arith))) (λ no-letter. inr (⊎_elim (λ (l, h). no-digit (omega arith, omega arith)) (λ (l, h). no-letter (omega arith, omega arith)))) (both_or_not (below_or_not 96 b) (below_or_not b 103)))
+    (both_or_not (below_or_not 47 b) (below_or_not b 58))
 
 capability_or_not : (f : List ℕ) → Decided ((c : Capability) × (f ≡ letter_of_capability c ∷ []))
 capability_or_not f = ⊎_elim (λ i. inl (In, i)) (λ ni. ⊎_elim (λ o. inl (Out, o)) (λ no'. ⊎_elim (λ b. inl (Both, b)) (λ nb. inr (λ (c, e). none ni no' nb c e)) (same_or_not f (98 ∷ []))) (same_or_not f (111 ∷ []))) (same_or_not f (105 ∷ []))

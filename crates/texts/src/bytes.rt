@@ -20,8 +20,7 @@ fn hex_digit(value: u8) -> u8
     }
 }
 
-// Writes the hexadecimal digits of a label set.
-// As it is: the buffer and the place go in and out as in `forms::bytes`; a writer would add a clause to each contract here.
+// Writes the hexadecimal digits of a label set, and answers the place behind them, as all functions here do.
 fn put_labels(out: &mut [u8], place: usize, labels: u64) -> usize
     ensures { Wrote out.old out.new place (hexadecimal label_digits labels) result }
 {
@@ -33,7 +32,7 @@ fn put_labels(out: &mut [u8], place: usize, labels: u64) -> usize
     next
 }
 
-// As it is: an impl of From would stand in forms, where Capability is declared, and these letters are those of row text alone; a type of this crate around it would be taken apart again at once.
+// No `From` of `Capability`: that stands in forms, and these letters are those of row text alone.
 fn capability_letter(capability: Capability) -> u8
     ensures { result ≡ letter_of_capability capability }
 {

@@ -63,7 +63,7 @@ fn is_stop(byte: u8) -> bool
 }
 
 // The byte that ends this field of a line.
-fn end_byte(number: usize) -> u8
+fn end_byte(number: u8) -> u8
     ensures { result ≡ end_of number }
 {
     if number == 3 { b'\n' } else { b',' }
@@ -77,8 +77,7 @@ fn length(text: &[u8]) -> Option<usize>
 }
 
 // The value of the field that the text begins with, and the text behind its end, which is that of this field of a line; the field's number if it is wrong.
-// As it is: the number in an Err is no code but the place that the refusal names.
-pub(crate) fn read<T: Value>(text: &[u8], number: usize) -> Result<(T, &[u8]), usize>
+pub(crate) fn read<T: Value>(text: &[u8], number: u8) -> Result<(T, &[u8]), u8>
     ensures { FieldRead T.Value.spells text.now number result }
 {
     let end = length(text).ok_or(number)?;

@@ -15,23 +15,23 @@ mod values;
 mod words;
 pub mod writing;
 
-// The most bytes that a row text has.
+/// The most bytes that a row text has.
 pub const MAX_TEXT: usize = 1600;
 
-// The rows of a text, read once.
+/// The rows of a text, read once.
 #[derive(Drop)]
 pub struct RowText {
     table: RowBuffer,
 }
 
-// Why a text is refused. Lines and their fields are counted from 0.
+/// Why a text is refused, each case with a number of its own (`text_refusal`). Lines and their fields are counted from 0.
 #[derive(Clone, Copy, PartialEq, Eq, Debug)]
 pub enum TextFault {
-    // more than 1,600 bytes
+    /// 1: more than 1,600 bytes
     TooLong,
-    // the first wrong field of the first wrong line
-    WrongLine { line: usize, field: usize },
-    // a 65th line begins
+    /// 2: the first wrong field of the first wrong line
+    WrongLine { line: u8, field: u8 },
+    /// 3: a 65th line begins
     TooManyLines,
 }
 
@@ -47,12 +47,12 @@ impl Refused for TextFault {
     }
 }
 
-// Why rows are not written.
+/// Why rows are not written, each case with a number of its own (`rows_refusal`).
 #[derive(Clone, Copy, PartialEq, Eq, Debug)]
 pub enum RowsFault {
-    // the lowest row with a number over 63
-    NumberOver { row: usize },
-    // the text is longer than the buffer
+    /// 4: the lowest row with a number over 63
+    NumberOver { row: u8 },
+    /// 5: the text is longer than the buffer
     NoRoom,
 }
 

@@ -8,7 +8,7 @@ use super::kinds::Kind;
 use forms::Row;
 
 // Fields 1 to 3 of a line and the text behind it, or the first wrong field.
-fn three<A: Value, B: Value, C: Value>(text: &[u8]) -> Result<((A, B, C), &[u8]), usize>
+fn three<A: Value, B: Value, C: Value>(text: &[u8]) -> Result<((A, B, C), &[u8]), u8>
     ensures { ThreeRead A.Value.spells B.Value.spells C.Value.spells text.now result }
 {
     let (first, after_first) = fields::read(text, 1)?;
@@ -18,21 +18,21 @@ fn three<A: Value, B: Value, C: Value>(text: &[u8]) -> Result<((A, B, C), &[u8])
 }
 
 // The fields of a row that has nothing there.
-fn blanks(text: &[u8]) -> Result<&[u8], usize>
+fn blanks(text: &[u8]) -> Result<&[u8], u8>
     ensures { BlanksRead text.now result }
 {
     let (((), (), ()), next) = three(text)?;
     Ok(next)
 }
 
-fn channel_fields(text: &[u8]) -> Result<(Row, &[u8]), usize>
+fn channel_fields(text: &[u8]) -> Result<(Row, &[u8]), u8>
     ensures { FieldsRead channel-kind text.now result }
 {
     let ((capability, payload, ()), next) = three(text)?;
     Ok((Row::Channel(capability, payload), next))
 }
 
-fn element_fields(text: &[u8]) -> Result<(Row, &[u8]), usize>
+fn element_fields(text: &[u8]) -> Result<(Row, &[u8]), u8>
     ensures { FieldsRead element-kind text.now result }
 {
     let ((labels, inside, following), next) = three(text)?;
@@ -46,7 +46,7 @@ fn element_fields(text: &[u8]) -> Result<(Row, &[u8]), usize>
     ))
 }
 
-fn union_fields(text: &[u8]) -> Result<(Row, &[u8]), usize>
+fn union_fields(text: &[u8]) -> Result<(Row, &[u8]), u8>
     ensures { FieldsRead union-kind text.now result }
 {
     let (((), left, right), next) = three(text)?;
@@ -54,7 +54,7 @@ fn union_fields(text: &[u8]) -> Result<(Row, &[u8]), usize>
 }
 
 // The row of the line that the text begins with and the text behind the line, or its first wrong field.
-pub(crate) fn line(text: &[u8]) -> Result<(Row, &[u8]), usize>
+pub(crate) fn line(text: &[u8]) -> Result<(Row, &[u8]), u8>
     ensures { LineRead text.now result }
 {
     let (kind, first) = fields::read(text, 0)?;

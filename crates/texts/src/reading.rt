@@ -11,11 +11,15 @@ use forms::buffer::RowBuffer;
 use forms::{FormSource, MAX_ROWS, Row};
 
 impl RowText {
-    // The rows that a text spells, or why it spells none.
+    /// The rows that a text spells, or why it spells none.
+    ///
+    /// # Errors
+    ///
+    /// 1, and then from the top the first of 2 and 3 (`TextFault`).
     pub fn read(text: &[u8]) -> Result<RowText, TextFault>
         ensures judged { Judged text.now (checked result) }
         ensures back { WritesBack text.now result }
-        ensures laws { (JudgementIsOne) × ((RightIsSpelled) × (SpelledIsShort)) }
+        ensures laws { JudgementIsOne × RightIsSpelled × SpelledIsShort }
     {
         if text.len() > MAX_TEXT {
             return Err(TextFault::TooLong);
@@ -27,20 +31,24 @@ impl RowText {
             if line == MAX_ROWS {
                 return Err(TextFault::TooManyLines);
             }
-            // As it is: tried with `map_err` and `?`, and the proof did not close: it would have to find the field again in what the closure gave.
+            // With `map_err` and `?` the proof would have to find the field again in what a closure gave.
             match lines::line(rest) {
                 Ok((row, next)) => {
                     table.push(row);
                     rest = next;
                 }
-                Err(field) => return Err(TextFault::WrongLine { line, field }),
+                Err(field) => {
+                    return Err(TextFault::WrongLine {
+                        line: line as u8,
+                        field,
+                    });
+                }
             }
         }
         Ok(RowText { table })
     }
 
-    // The rows that a text spells, or none where checking refuses it.
-    // As it is: making a source never refuses, by the project's rule; `read` beside it says why a text spells no rows.
+    /// The rows that a text spells, or none where checking refuses it. Making a source never refuses: `read` says why a text spells no rows.
     pub fn new(text: &[u8]) -> RowText
         ensures { (o : Outcome (List Row)) → Judged text.now o → text_rows result ≡ spelled_by o }
     {
@@ -52,7 +60,7 @@ impl RowText {
         }
     }
 
-    // The rows as a slice.
+    /// The rows as a slice.
     pub fn rows(&self) -> &[Row]
         ensures { result.now ≡ text_rows self.now }
     {

@@ -26,7 +26,7 @@ pub(crate) fn kind(field: &[u8]) -> Option<Kind>
     Kind::try_from(single(field)?).ok()
 }
 
-// As it is: an impl of TryFrom would stand in forms, where Capability is declared, and these letters are those of row text alone; a type of this crate around it would be taken apart again at once.
+// No `TryFrom` of `Capability`: that stands in forms, and these letters are those of row text alone.
 fn capability_letter(byte: u8) -> Option<Capability>
     ensures { Told (λ c. byte ≡ letter_of_capability c) result }
 {

@@ -5,8 +5,7 @@ use std::error::Error;
 use std::fmt;
 
 // What is asked for in a field.
-// As it is: a field is a number by the format, and so is the one that the refusal names.
-fn field_words(field: usize) -> &'static str {
+fn field_words(field: u8) -> &'static str {
     match field {
         0 => "field 0, the kind: V, N, C, E or U is asked for",
         1 =>

@@ -3,7 +3,7 @@ ghost use Rattle.std.specs.Prelude.{◌≡◌, ◌≤◌, length};
 ghost use Rattle.forms.specs.Buffers.{rows_of};
 ghost use Rattle.forms.specs.Splices.{Wrote};
 ghost use Rattle.texts.specs.RowText.{spelled_row, spelled};
-ghost use Rattle.texts.specs.Writing.{WritingRowsIsOne, WrittenRowsAreRight};
+ghost use Rattle.texts.specs.Writing.{WritingRowsIsOne, WrittenRowsAreRight, RightRowsAreWritten};
 ghost use Rattle.texts.specs.Calls.{TotalFound, RowsWritten, ReadsBack};
 
 use super::values::LABEL_DIGITS;
@@ -13,7 +13,7 @@ use forms::bytes::digits;
 use forms::{FormSource, MAX_ROWS, Row};
 
 // The length of a row's line: its letter, three commas and byte 10, and its fields.
-// As it is: a text that is too long leaves the buffer as it was, so its length is known before a byte of it is written; one `match` for both would write into a buffer that may not be there.
+// A text that is too long leaves the buffer as it was, so its length is known before a byte of it is written.
 fn line_length(row: Row) -> usize
     ensures value { result ≡ length (spelled_row row) }
     ensures few { result ≤ 27 }
@@ -37,7 +37,7 @@ fn measure(table: &RowBuffer) -> Result<usize, RowsFault>
     let mut total = 0;
     for (number, row) in table.rows().iter().enumerate() {
         if !row.numbers_below(MAX_ROWS) {
-            return Err(RowsFault::NumberOver { row: number });
+            return Err(RowsFault::NumberOver { row: number as u8 });
         }
         total += line_length(*row);
     }
@@ -55,11 +55,15 @@ fn write(rows: &[Row], out: &mut [u8]) -> usize
     place
 }
 
-// Writes the rows of a source as text at the front of a buffer, and returns the text's length. A refusal leaves the buffer as it was.
+/// Writes the rows of a source as text at the front of a buffer, and returns the text's length in bytes; the rest of the buffer stays.
+///
+/// # Errors
+///
+/// 4, then 5 (`RowsFault`). A refusal leaves the buffer as it was.
 pub fn write_rows<S: FormSource>(source: &S, buffer: &mut [u8]) -> Result<usize, RowsFault>
     ensures written { RowsWritten (S.FormSource.rows source.now) buffer.old buffer.new result }
     ensures back { ReadsBack (S.FormSource.rows source.now) buffer.new result }
-    ensures laws { (WritingRowsIsOne) × (WrittenRowsAreRight) }
+    ensures laws { WritingRowsIsOne × WrittenRowsAreRight × RightRowsAreWritten }
 {
     let table = RowBuffer::of(source);
     let length = measure(&table)?;

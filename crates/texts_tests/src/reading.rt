@@ -111,7 +111,7 @@ fn first_and_last_place(rt: HostRuntime) -> Result<(), Fail> {
     refused(&rt, &text, TextFault::WrongLine { line: 0, field: 0 })
 }
 
-fn wrong(rt: &impl Abort, texts: &[&[u8]], line: usize, field: usize) -> Result<(), Fail> {
+fn wrong(rt: &impl Abort, texts: &[&[u8]], line: u8, field: u8) -> Result<(), Fail> {
     for text in texts {
         refused(rt, text, TextFault::WrongLine { line, field })?;
     }
@@ -211,23 +211,38 @@ fn taken_for_no_rows(rt: HostRuntime) {
     );
 }
 
+// What each fault says, with its number, and for a wrong line what each field asks for.
 #[test]
 fn words(rt: HostRuntime) -> Result<(), Fail> {
-    let alloc = rt.alloc();
-    let long = format!(in alloc; "{}", TextFault::TooLong)?;
-    assert_eq!(rt;
-        long.as_str(),
-        "the text is refused (1): it has more than 1,600 bytes"
-    );
-    let wrong = format!(in alloc; "{}", TextFault::WrongLine { line: 7, field: 0 })?;
-    assert_eq!(rt;
-        wrong.as_str(),
-        "the text is refused (2): line 7 is wrong at field 0, the kind: V, N, C, E or U is asked for (lines and fields are counted from 0)"
-    );
-    let many = format!(in alloc; "{}", TextFault::TooManyLines)?;
-    assert_eq!(rt;
-        many.as_str(),
-        "the text is refused (3): it has more than 64 lines"
-    );
+    let cases = [
+        (
+            TextFault::TooLong,
+            "the text is refused (1): it has more than 1,600 bytes",
+        ),
+        (
+            TextFault::WrongLine { line: 7, field: 0 },
+            "the text is refused (2): line 7 is wrong at field 0, the kind: V, N, C, E or U is asked for (lines and fields are counted from 0)",
+        ),
+        (
+            TextFault::WrongLine { line: 63, field: 1 },
+            "the text is refused (2): line 63 is wrong at field 1: i, o or b for C, 16 hexadecimal digits for E, else nothing is asked for, and then a comma (lines and fields are counted from 0)",
+        ),
+        (
+            TextFault::WrongLine { line: 0, field: 2 },
+            "the text is refused (2): line 0 is wrong at field 2: a row number from 0 to 63 for C, E and U, else nothing is asked for, and then a comma (lines and fields are counted from 0)",
+        ),
+        (
+            TextFault::WrongLine { line: 10, field: 3 },
+            "the text is refused (2): line 10 is wrong at field 3: a row number from 0 to 63 for E and U, else nothing is asked for, and then the end of the line (lines and fields are counted from 0)",
+        ),
+        (
+            TextFault::TooManyLines,
+            "the text is refused (3): it has more than 64 lines",
+        ),
+    ];
+    for (fault, words) in &cases {
+        let told = format!(in rt.alloc(); "{fault}")?;
+        assert_eq!(rt; told.as_str(), *words);
+    }
     Ok(())
 }

@@ -160,18 +160,22 @@ fn numbers(rt: HostRuntime) {
     assert!(rt; RowsFault::NumberOver { row: 7 }.number() == 4 && RowsFault::NoRoom.number() == 5);
 }
 
+// What each fault says, with its number.
 #[test]
 fn words(rt: HostRuntime) -> Result<(), Fail> {
-    let alloc = rt.alloc();
-    let over = format!(in alloc; "{}", RowsFault::NumberOver { row: 7 })?;
-    assert_eq!(rt;
-        over.as_str(),
-        "it cannot be written (4): row 7 has a number above 63, since it pointed past its own table"
-    );
-    let room = format!(in alloc; "{}", RowsFault::NoRoom)?;
-    assert_eq!(rt;
-        room.as_str(),
-        "it cannot be written (5): the text is longer than the buffer"
-    );
+    let cases = [
+        (
+            RowsFault::NumberOver { row: 7 },
+            "it cannot be written (4): row 7 has a number above 63, since it pointed past its own table",
+        ),
+        (
+            RowsFault::NoRoom,
+            "it cannot be written (5): the text is longer than the buffer",
+        ),
+    ];
+    for (fault, words) in &cases {
+        let told = format!(in rt.alloc(); "{fault}")?;
+        assert_eq!(rt; told.as_str(), *words);
+    }
     Ok(())
 }

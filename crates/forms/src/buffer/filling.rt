@@ -10,7 +10,7 @@ use super::super::{FormSource, MAX_ROWS, Row};
 use super::RowBuffer;
 
 impl RowBuffer {
-    // No rows.
+    /// No rows.
     pub fn empty() -> RowBuffer
         ensures { rows_of result ≡ [] }
     {
@@ -20,8 +20,7 @@ impl RowBuffer {
         }
     }
 
-    // One row more at the end; false, and no change, where there are 64.
-    // As it is: whether it was taken is all that there is to say, and no caller here can be turned away.
+    /// One row more at the end; false, and no change, where there are 64.
     pub fn push(&mut self, row: Row) -> bool
         ensures taken { result ≡ nat_lt (length (rows_of self.old)) max_rows }
         ensures now { rows_of self.new ≡ pushed (rows_of self.old) row }
@@ -34,8 +33,7 @@ impl RowBuffer {
         true
     }
 
-    // The rows of a slice, or none if it has more than 64.
-    // As it is: making a source never refuses, by the project's rule, and a table without rows is one that admission refuses.
+    /// The rows of a slice, or none if it has more than 64. Making a source never refuses: a table without rows is one that admission refuses.
     pub fn new(rows: &[Row]) -> RowBuffer
         ensures { rows_of result ≡ few rows.now }
     {
@@ -48,8 +46,7 @@ impl RowBuffer {
         buffer
     }
 
-    // The rows of any source.
-    // As it is: a source answers by number alone, so a chain would be `filter_map` over the same range with the same call in it.
+    /// The rows of any source.
     pub fn of<S: FormSource>(source: &S) -> RowBuffer
         ensures { rows_of result ≡ S.FormSource.rows source.now }
     {
@@ -62,7 +59,7 @@ impl RowBuffer {
         buffer
     }
 
-    // The rows as a slice.
+    /// The rows as a slice.
     pub fn rows(&self) -> &[Row]
         ensures is { result.now ≡ rows_of self.now }
         ensures few { length result.now ≤ max_rows }

@@ -2,7 +2,7 @@ use Rattle.std.proofs.Common.{Ok, refl}
 use Rattle.std.proofs.lemmas.Result.{err_from_is_err_and}
 use Rattle.documents.specs.Reading.Reads.{is_long}
 use Rattle.documents.proofs.Outcomes.{read_refused, read_large, read_done, written_back}
-use Rattle.documents.proofs.Reading.{wrong_at_one_place}
+use Rattle.documents.proofs.Laws.{reading_laws}
 use Rattle.documents.proofs.reader.read_document.Goals as goal
 
 pub returns-then-text-gt-MAX_DOCUMENT-clause-read : goal.returns-then-text-gt-MAX_DOCUMENT-clause-read
@@ -23,14 +23,14 @@ pub returns-clause-back : goal.returns-clause-back
 returns-clause-back c = written_back c.args.text.now c.args.nodes.now c.build.new.nodes (Ok c.in_ok-count.count)
     (read_done c.args.text.now c.args.nodes.now c.if-text-gt-MAX_DOCUMENT.false c.in_ok-count.count c.build.new.nodes c.in_ok-count.ensures c.if-too_many.ensures c.build.ensures)
 
-pub returns-then-text-gt-MAX_DOCUMENT-clause-place : goal.returns-then-text-gt-MAX_DOCUMENT-clause-place
-returns-then-text-gt-MAX_DOCUMENT-clause-place c = wrong_at_one_place
+pub returns-then-text-gt-MAX_DOCUMENT-clause-laws : goal.returns-then-text-gt-MAX_DOCUMENT-clause-laws
+returns-then-text-gt-MAX_DOCUMENT-clause-laws c = reading_laws
 
-pub returns-in_err-count-clause-place : goal.returns-in_err-count-clause-place
-returns-in_err-count-clause-place c = wrong_at_one_place
+pub returns-in_err-count-clause-laws : goal.returns-in_err-count-clause-laws
+returns-in_err-count-clause-laws c = reading_laws
 
-pub returns-then-too_many-clause-place : goal.returns-then-too_many-clause-place
-returns-then-too_many-clause-place c = wrong_at_one_place
+pub returns-then-too_many-clause-laws : goal.returns-then-too_many-clause-laws
+returns-then-too_many-clause-laws c = reading_laws
 
-pub returns-clause-place : goal.returns-clause-place
-returns-clause-place c = wrong_at_one_place
+pub returns-clause-laws : goal.returns-clause-laws
+returns-clause-laws c = reading_laws

@@ -3,12 +3,12 @@ use Rattle.std.proofs.lemmas.Grind.{common_steps}
 use Rattle.std.proofs.lemmas.Result.{err_from_is_err_and}
 use Rattle.documents.specs.declared.faults.WriteFault.TheVariants.{TooLong}
 use Rattle.documents.specs.Writing.WritesDocument.{is_many, is_unsound}
-use Rattle.documents.proofs.Writing.{writing_documents_is_one}
+use Rattle.documents.proofs.Laws.{writing_laws}
 use Rattle.documents.proofs.Outcomes.{write_outside, write_long, write_done}
 use Rattle.documents.proofs.writer.write_document.Goals as goal
 
 pub returns-then-nodes-gt-MAX_NODES : goal.returns-then-nodes-gt-MAX_NODES
-returns-then-nodes-gt-MAX_NODES c = record { written = (is_many c.if-nodes-gt-MAX_NODES.true, refl); back = tt; one = writing_documents_is_one }
+returns-then-nodes-gt-MAX_NODES c = record { written = (is_many c.if-nodes-gt-MAX_NODES.true, refl); back = tt; laws = writing_laws }
 
 pub returns-in_err-table-clause-written : goal.returns-in_err-table-clause-written
 returns-in_err-table-clause-written c =
@@ -19,14 +19,14 @@ returns-in_err-table-clause-written c =
 pub returns-in_err-table-clause-back : goal.returns-in_err-table-clause-back
 returns-in_err-table-clause-back c = let p = err_from_is_err_and c.from_residual.result c.from_residual.ensures.1 in rw p.1 tt
 
-pub returns-in_err-table-clause-one : goal.returns-in_err-table-clause-one
-returns-in_err-table-clause-one c = writing_documents_is_one
+pub returns-in_err-table-clause-laws : goal.returns-in_err-table-clause-laws
+returns-in_err-table-clause-laws c = writing_laws
 
 pub returns-then-root-nodes : goal.returns-then-root-nodes
 returns-then-root-nodes c = record {
   written = write_outside c.args.nodes.now c.args.root c.args.buffer.now c.if-nodes-gt-MAX_NODES.false (rw c.in_ok-table.ensures at c.in_ok-table.table.sound) c.if-root-nodes.true;
   back = tt;
-  one = writing_documents_is_one;
+  laws = writing_laws;
 }
 
 pub returns : goal.returns
@@ -34,7 +34,7 @@ returns c =
     let room : c.measure.result ≡ Some c.in_ok-ok_or.field-0 = grind (arith, common_steps) in
     let (written, back) = write_done c.args.nodes.now c.args.root c.args.buffer.now c.if-nodes-gt-MAX_NODES.false (rw c.in_ok-table.ensures at c.in_ok-table.table.sound) c.if-root-nodes.false c.min.result c.min.ensures
     c.in_ok-ok_or.field-0 c.write.result c.write.new.out (rw (c.in_ok-table.ensures, room) at c.measure.ensures) (rw c.in_ok-table.ensures at c.write.ensures) in
-    record { written = written; back = back; one = writing_documents_is_one }
+    record { written = written; back = back; laws = writing_laws }
 
 pub returns-in_err-ok_or : goal.returns-in_err-ok_or
 returns-in_err-ok_or c =
@@ -44,5 +44,5 @@ returns-in_err-ok_or c =
     rw (p.1, p.2, is) (record {
       written = write_long c.args.nodes.now c.args.root c.args.buffer.now c.if-nodes-gt-MAX_NODES.false (rw c.in_ok-table.ensures at c.in_ok-table.table.sound) c.if-root-nodes.false c.min.result c.min.ensures (rw (c.in_ok-table.ensures, none) at c.measure.ensures);
       back = tt;
-      one = writing_documents_is_one;
+      laws = writing_laws;
     })
