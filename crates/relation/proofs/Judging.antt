@@ -7,8 +7,6 @@ use Rattle.forms.specs.Refusals.Refusal.{refusal}
 use Rattle.forms.specs.Rows.{NumbersBelow}
 use Rattle.forms.specs.declared.Row.{Row}
 use Rattle.forms.specs.declared.Row.TheVariants.{Void, Nothing, Channel, Element, Union}
-use Rattle.forms.specs.Schema.{Offers}
-use Rattle.forms.specs.Schema.Offers.{itself, left, right}
 use Rattle.relation.specs.declared.AdmissionFault.{AdmissionFault}
 use Rattle.relation.specs.declared.analysis.Analysis.{Analysis}
 use Rattle.relation.specs.Admission.{Outside, SharesLabel, Admitted, Finds, AdmittedOrOneFault}
@@ -16,25 +14,15 @@ use Rattle.relation.specs.Admission.Finds.{no_rows, number_outside, label_twice}
 use Rattle.relation.specs.Faults.{admission_refusal}
 use Rattle.relation.specs.Judged.{Judged}
 use Rattle.forms.proofs.Findings.{Decided, nth_below, lowest_one, both_or_not, below_or_not}
+use Rattle.relation.proofs.Offered.{offering_below}
 
 pub outside_below : (rows : List Row) (p : ℕ) → Outside rows p → p < length rows
 outside_below rows p (row, is, _) = nth_below rows p is
 
-pub offering_below : (rows : List Row) (p o : ℕ) → Offers rows p o → p < length rows
-offering_below rows p o (itself {row} e nu) = nth_below rows p e
-offering_below rows p o (left {l} {r} e h) = nth_below rows p e
-offering_below rows p o (right {l} {r} e h) = nth_below rows p e
-
-pub shares_below : (rows : List Row) (p : ℕ) → SharesLabel rows p → 0 < length rows
-shares_below rows p h =
-    let g = h.first in
-    let lt = nth_below rows h.one g.is in
-    omega arith
-
 pub sharing_below : (rows : List Row) (p : ℕ) → SharesLabel rows p → p < length rows
-sharing_below rows p h = offering_below rows p h.one h.first.offered
+sharing_below rows p h = offering_below rows h.first.offered
 
-inside_or_not : (n : ℕ) (row : Row) → Decided (NumbersBelow n row)
+pub inside_or_not : (n : ℕ) (row : Row) → Decided (NumbersBelow n row)
 inside_or_not n Void = inl tt
 inside_or_not n Nothing = inl tt
 inside_or_not n (Channel k s) = below_or_not s n
@@ -49,11 +37,11 @@ module _ (rows : List Row) where
   pub one_fault : (e f : Refusal) → Finds rows e → Finds rows f → f ≡ e
   one_fault e f (no_rows z) (no_rows y) = refl
   one_fault e f (no_rows z) (number_outside {p} (out, _)) = let h = outside_below rows p out in absurd (omega arith)
-  one_fault e f (no_rows z) (label_twice {p} _ (twice, _)) = let h = shares_below rows p twice in absurd (omega arith)
+  one_fault e f (no_rows z) (label_twice {p} _ (twice, _)) = let h = sharing_below rows p twice in absurd (omega arith)
   one_fault e f (number_outside {p} (out, _)) (no_rows z) = let h = outside_below rows p out in absurd (omega arith)
   one_fault e f (number_outside {p} a) (number_outside {p = q} b) = ap (λ x. refusal 12 (x ∷ [])) (lowest_one (Outside rows) q p b a)
   one_fault e f (number_outside {p} (out, _)) (label_twice none _) = absurd (none p out)
-  one_fault e f (label_twice {p} _ (twice, _)) (no_rows z) = let h = shares_below rows p twice in absurd (omega arith)
+  one_fault e f (label_twice {p} _ (twice, _)) (no_rows z) = let h = sharing_below rows p twice in absurd (omega arith)
   one_fault e f (label_twice none _) (number_outside {p} (out, _)) = absurd (none p out)
   one_fault e f (label_twice {p} _ a) (label_twice {p = q} _ b) = ap (λ x. refusal 13 (x ∷ [])) (lowest_one (SharesLabel rows) q p b a)
 

@@ -48,13 +48,6 @@ pub record Seen (rows : List Row) (p seen i : ℕ) : Type 0 where
   pub apart : (e f x : ℕ) → e < i → f < i → Gives rows p e x → Gives rows p f x → e ≡ f
 
 module _ (rows : List Row) (p : ℕ) where
-  pub seen_none : Seen rows p 0 0
-  seen_none = record {
-    has = λ e x h. absurd (omega arith);
-    from = λ x h. absurd (both_ways (bit 0 x) (bit_zero x) h);
-    apart = λ e f x h. absurd (omega arith);
-  }
-
   module _ (seen i labels : ℕ) (s : Seen rows p seen i) (given : (x : ℕ) → Decides (belongs x labels) (Gives rows p i x)) where
     pub seen_more : ((x : ℕ) × (belongs x seen ≡ true) × (belongs x labels ≡ true) → ⊥) → Seen rows p (bit_or seen labels) (i + 1)
     seen_more clear = record {

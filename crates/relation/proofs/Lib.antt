@@ -1,3 +1,4 @@
+pub mod Offered
 pub mod Growing
 pub mod Reaching
 pub mod Inhabitants

@@ -12,11 +12,12 @@ use Rattle.forms.specs.Schema.Inhabited.{of_void, of_channel, of_element, of_lef
 use Rattle.forms.specs.declared.Row.{Row}
 use Rattle.forms.specs.declared.Row.TheVariants.{Void, Nothing, Channel, Element, Union}
 use Rattle.forms.specs.declared.Capability.{Capability}
-use Rattle.forms.proofs.Findings.{never, nth_below}
+use Rattle.forms.proofs.Findings.{nth_below}
 use Rattle.forms.proofs.Sides.{length_joined, from_first, from_second, from_turned}
 use Rattle.relation.specs.Admission.{Gives, SharesLabel, Admitted}
 use Rattle.relation.specs.Sources.{JoinedIsAdmitted, TurnedIsAdmitted}
 use Rattle.relation.proofs.Judging.{sharing_below}
+use Rattle.relation.proofs.Offered.{offered_below}
 
 -- the second row is the first with its numbers raised by n; a channel may have another capability
 abbrev Alike : ℕ → Row → Row → Type 0
@@ -33,122 +34,69 @@ pub record Placed (part all : List Row) (n : ℕ) : Type 0 where
   pub room : length part + n ≤ length all
 
 module _ (part all : List Row) (n : ℕ) (placed : Placed part all n) where
-  -- row k of the part, and the row of the whole that it is
-  record Met (k : ℕ) (row' : Row) : Type 0 where
-    pub row : Row
-    pub at : slice_get part k ≡ Some row
-    pub alike : Alike n row row'
-    pub below : NumbersBelow (length part) row
+  -- what row k of the part is, where the whole has a row
+  Back : ℕ → Row → Type 0
+  Back k Void = slice_get part k ≡ Some Void
+  Back k Nothing = slice_get part k ≡ Some Nothing
+  Back k (Channel c s) = (c' : Capability) × (s' : ℕ) × (slice_get part k ≡ Some (Channel c' s')) × (s ≡ s' + n) × (s' < length part)
+  Back k (Element l i f) = (a b : ℕ) × (slice_get part k ≡ Some (Element l a b)) × (i ≡ a + n) × (f ≡ b + n) × (a < length part) × (b < length part)
+  Back k (Union l r) = (a b : ℕ) × (slice_get part k ≡ Some (Union a b)) × (l ≡ a + n) × (r ≡ b + n) × (a < length part) × (b < length part)
 
-  met : (k p : ℕ) (row' : Row) → k < length part → p ≡ k + n → slice_get all p ≡ Some row' → Met k row'
+  back : (k : ℕ) (row row' : Row) → slice_get part k ≡ Some row → Alike n row row' → NumbersBelow (length part) row → Back k row'
+  unfolding Back
+  back k Void row' at e low = subst (Back k) (sym e) at
+  back k Nothing row' at e low = subst (Back k) (sym e) at
+  back k (Channel c s) row' at (c', e) low = subst (Back k) (sym e) (c, s, at, refl, low)
+  back k (Element l a b) row' at e (a<, b<) = subst (Back k) (sym e) (a, b, at, refl, refl, a<, b<)
+  back k (Union a b) row' at e (a<, b<) = subst (Back k) (sym e) (a, b, at, refl, refl, a<, b<)
+
+  met : (k p : ℕ) (row' : Row) → k < length part → p ≡ k + n → slice_get all p ≡ Some row' → Back k row'
   met k p row' lt e is =
       let at = slice_get-get_or part k Void lt in
       let (row, there, alike) = placed.each k (get_or part k Void) at in
       let same : row ≡ row' = (let there' = ap (slice_get all) e in cc) in
-      record { row = get_or part k Void; at = at; alike = subst (Alike n (get_or part k Void)) same alike; below = placed.admitted.within k (get_or part k Void) at }
+      back k (get_or part k Void) row' at (subst (Alike n (get_or part k Void)) same alike) (placed.admitted.within k (get_or part k Void) at)
 
-  no_union : (row row' : Row) → Alike n row row' → NoUnion row' → NoUnion row
-  no_union Void row' e h = tt
-  no_union Nothing row' e h = tt
-  no_union (Channel k s) row' e h = tt
-  no_union (Element l i f) row' e h = tt
-  no_union (Union l r) row' e h = subst NoUnion e h
-
-  -- a union of the whole is one of the part
-  record Sides (k l r : ℕ) : Type 0 where
-    pub a : ℕ
-    pub b : ℕ
-    pub at : slice_get part k ≡ Some (Union a b)
-    pub is_left : l ≡ a + n
-    pub is_right : r ≡ b + n
-    pub left_in : a < length part
-    pub right_in : b < length part
-
-  sides : (k l r : ℕ) → Met k (Union l r) → Sides k l r
-  sides k l r m = go m.row m.at m.alike m.below
-    where
-      go : (row : Row) → slice_get part k ≡ Some row → Alike n row (Union l r) → NumbersBelow (length part) row → Sides k l r
-      go Void at e h = never (cc)
-      go Nothing at e h = never (cc)
-      go (Channel c s) at (c', e) h = never (cc)
-      go (Element x i f) at e h = never (cc)
-      go (Union a b) at e h = record { a = a; b = b; at = at; is_left = cc; is_right = cc; left_in = h.0; right_in = h.1 }
-
-  -- and so is an element
-  record Parts (k l i f : ℕ) : Type 0 where
-    pub a : ℕ
-    pub b : ℕ
-    pub at : slice_get part k ≡ Some (Element l a b)
-    pub is_inside : i ≡ a + n
-    pub is_following : f ≡ b + n
-    pub inside_in : a < length part
-    pub following_in : b < length part
-
-  parts : (k l i f : ℕ) → Met k (Element l i f) → Parts k l i f
-  parts k l i f m = go m.row m.at m.alike m.below
-    where
-      go : (row : Row) → slice_get part k ≡ Some row → Alike n row (Element l i f) → NumbersBelow (length part) row → Parts k l i f
-      go Void at e h = never (cc)
-      go Nothing at e h = never (cc)
-      go (Channel c s) at (c', e) h = never (cc)
-      go (Element x a b) at e h =
-          let same : x ≡ l = cc in
-          record { a = a; b = b; at = at ∙ ap (λ y. Some (Element y a b)) same; is_inside = cc; is_following = cc; inside_in = h.0; following_in = h.1 }
-      go (Union a b) at e h = never (cc)
+  -- a row of the whole that is no union is none of the part
+  alone : (k : ℕ) (row' : Row) → Back k row' → NoUnion row' → Offers part k k
+  unfolding Back
+  alone k Void at nu = itself at tt
+  alone k Nothing at nu = itself at tt
+  alone k (Channel c s) (_, _, at, _, _) nu = itself at tt
+  alone k (Element l i f) (_, _, at, _, _, _, _) nu = itself at tt
+  alone k (Union l r) b nu = absurd nu
 
   -- a row of the part offers in the whole what it offers in the part
   offers : (p o : ℕ) → Offers all p o → (k : ℕ) → k < length part → p ≡ k + n → (j : ℕ) × (o ≡ j + n) × Offers part k j
-  offers p o (itself {row} e nu) k lt is = let m = met k p row lt is e in (k, is, itself m.at (no_union m.row row m.alike nu))
+  unfolding Back
+  offers p o (itself {row} e nu) k lt is = (k, is, alone k row (met k p row lt is e) nu)
   offers p o (left {l} {r} e h) k lt is =
-      let s = sides k l r (met k p (Union l r) lt is e) in
-      let (j, same, there) = offers l o h s.a s.left_in s.is_left in
-      (j, same, left s.at there)
+      let (a, b, at, l-is, r-is, a<, b<) = met k p (Union l r) lt is e in
+      let (j, same, there) = offers l o h a a< l-is in
+      (j, same, left at there)
   offers p o (right {l} {r} e h) k lt is =
-      let s = sides k l r (met k p (Union l r) lt is e) in
-      let (j, same, there) = offers r o h s.b s.right_in s.is_right in
-      (j, same, right s.at there)
-
-  of_void_row : (k : ℕ) → Met k Void → Inhabited part k
-  of_void_row k m = go m.row m.at m.alike
-    where
-      go : (row : Row) → slice_get part k ≡ Some row → Alike n row Void → Inhabited part k
-      go Void at e = of_void at
-      go Nothing at e = never (cc)
-      go (Channel c s) at (c', e) = never (cc)
-      go (Element x i f) at e = never (cc)
-      go (Union a b) at e = never (cc)
-
-  of_channel_row : (k : ℕ) (c : Capability) (s : ℕ) → Met k (Channel c s) → Inhabited part k
-  of_channel_row k c s m = go m.row m.at m.alike
-    where
-      go : (row : Row) → slice_get part k ≡ Some row → Alike n row (Channel c s) → Inhabited part k
-      go Void at e = never (cc)
-      go Nothing at e = never (cc)
-      go (Channel c' s') at e = of_channel at
-      go (Element x i f) at e = never (cc)
-      go (Union a b) at e = never (cc)
+      let (a, b, at, l-is, r-is, a<, b<) = met k p (Union l r) lt is e in
+      let (j, same, there) = offers r o h b b< r-is in
+      (j, same, right at there)
 
   -- and is inhabited in the part if it is in the whole
   inhabited : (p : ℕ) → Inhabited all p → (k : ℕ) → k < length part → p ≡ k + n → Inhabited part k
-  inhabited p (of_void e) k lt is = of_void_row k (met k p Void lt is e)
-  inhabited p (of_channel {k = c} {s} e) k lt is = of_channel_row k c s (met k p (Channel c s) lt is e)
+  unfolding Back
+  inhabited p (of_void e) k lt is = of_void (met k p Void lt is e)
+  inhabited p (of_channel {k = c} {s} e) k lt is = let (_, _, at, _, _) = met k p (Channel c s) lt is e in of_channel at
   inhabited p (of_element {l} {i} {n = f} x e has hi hf) k lt is =
-      let s = parts k l i f (met k p (Element l i f) lt is e) in
-      of_element x s.at has (inhabited i hi s.a s.inside_in s.is_inside) (inhabited f hf s.b s.following_in s.is_following)
-  inhabited p (of_left {l} {r} e h) k lt is = let s = sides k l r (met k p (Union l r) lt is e) in of_left s.at (inhabited l h s.a s.left_in s.is_left)
-  inhabited p (of_right {l} {r} e h) k lt is = let s = sides k l r (met k p (Union l r) lt is e) in of_right s.at (inhabited r h s.b s.right_in s.is_right)
-
-  offered_below : (k j : ℕ) → Offers part k j → j < length part
-  offered_below k j (itself e nu) = nth_below part k e
-  offered_below k j (left e h) = offered_below _ j h
-  offered_below k j (right e h) = offered_below _ j h
+      let (a, b, at, i-is, f-is, a<, b<) = met k p (Element l i f) lt is e in
+      of_element x at has (inhabited i hi a a< i-is) (inhabited f hf b b< f-is)
+  inhabited p (of_left {l} {r} e h) k lt is = let (a, _, at, l-is, _, a<, _) = met k p (Union l r) lt is e in of_left at (inhabited l h a a< l-is)
+  inhabited p (of_right {l} {r} e h) k lt is = let (_, b, at, _, r-is, _, b<) = met k p (Union l r) lt is e in of_right at (inhabited r h b b< r-is)
 
   gives : (p e x : ℕ) → Gives all p e x → (k : ℕ) → k < length part → p ≡ k + n → (j : ℕ) × (e ≡ j + n) × Gives part k j x
+  unfolding Back
   gives p e x g k lt is =
       let (j, same, offered) = offers p e g.offered k lt is in
-      let low = offered_below k j offered in
-      let s = parts j g.labels g.inside g.following (met j e (Element g.labels g.inside g.following) low same g.is) in
-      (j, same, record { labels = g.labels; inside = s.a; following = s.b; offered = offered; is = s.at; inhabited = inhabited e g.inhabited j low same; has = g.has })
+      let low = offered_below part offered in
+      let (a, b, at, _, _, _, _) = met j e (Element g.labels g.inside g.following) low same g.is in
+      (j, same, record { labels = g.labels; inside = a; following = b; offered = offered; is = at; inhabited = inhabited e g.inhabited j low same; has = g.has })
 
   pub shares_not : (p k : ℕ) → k < length part → p ≡ k + n → SharesLabel all p → ⊥
   shares_not p k lt is s =
@@ -156,15 +104,16 @@ module _ (part all : List Row) (n : ℕ) (placed : Placed part all n) where
       let (j', other, g') = gives p s.other s.label s.second k lt is in
       placed.admitted.determined k (record { one = j; other = j'; label = s.label; first = g; second = g'; different = λ e. s.different (one ∙ ap (λ y. y + n) e ∙ sym other) })
 
-  numbers_stay_below : (row row' : Row) → Alike n row row' → NumbersBelow (length part) row → NumbersBelow (length all) row'
-  numbers_stay_below Void row' e h = subst (NumbersBelow (length all)) (sym e) tt
-  numbers_stay_below Nothing row' e h = subst (NumbersBelow (length all)) (sym e) tt
-  numbers_stay_below (Channel k s) row' (k', e) h = let r = placed.room in let lt : s + n < length all = omega arith in subst (NumbersBelow (length all)) (sym e) lt
-  numbers_stay_below (Element l i f) row' e (a, b) = let r = placed.room in let lt : i + n < length all = omega arith in let lt' : f + n < length all = omega arith in subst (NumbersBelow (length all)) (sym e) (lt, lt')
-  numbers_stay_below (Union l r) row' e (a, b) = let m = placed.room in let lt : l + n < length all = omega arith in let lt' : r + n < length all = omega arith in subst (NumbersBelow (length all)) (sym e) (lt, lt')
+  numbers_stay : (k : ℕ) (row : Row) → Back k row → NumbersBelow (length all) row
+  unfolding Back
+  numbers_stay k Void b = tt
+  numbers_stay k Nothing b = tt
+  numbers_stay k (Channel c s) (_, _, _, is, low) = let room = placed.room in omega arith
+  numbers_stay k (Element l i f) (_, _, _, i-is, f-is, a<, b<) = let room = placed.room in (omega arith, omega arith)
+  numbers_stay k (Union l r) (_, _, _, l-is, r-is, a<, b<) = let room = placed.room in (omega arith, omega arith)
 
   pub within_all : (p k : ℕ) (row : Row) → k < length part → p ≡ k + n → slice_get all p ≡ Some row → NumbersBelow (length all) row
-  within_all p k row lt is e = let m = met k p row lt is e in numbers_stay_below m.row row m.alike m.below
+  within_all p k row lt is e = numbers_stay k row (met k p row lt is e)
 
 -- row p of the whole is one of a part
 pub record OfPart (all : List Row) (p : ℕ) : Type 0 where

@@ -24,14 +24,14 @@ fn outside(table: &RowBuffer) -> Option<u8>
     Some(p as u8)
 }
 
-// Whether two label sets have a label in common.
+/// Whether two label sets have a label in common. Bit k of a set says whether label k belongs to it.
 pub fn meets(a: u64, b: u64) -> bool
     ensures { Decides result ((x : ℕ) × (belongs x a ≡ true) × (belongs x b ≡ true)) }
 {
     a & b != 0
 }
 
-// The label set of an element row; of another row the empty one.
+/// The label set of an element row; of another row the empty one, 0.
 pub fn element_labels(row: Row) -> u64
     ensures { result ≡ label_set_of row }
 {
@@ -51,7 +51,6 @@ fn counts(analysis: &Analysis, p: usize, o: usize) -> bool
 }
 
 // The labels of row o, if it is an inhabited element row that row p offers.
-// As it is: a struct of the table and its analysis would hold what the analysis tells as a truncated fact, which would be decided again at each of three uses.
 fn given_labels(table: &RowBuffer, analysis: &Analysis, p: usize, o: usize) -> u64
     requires first { p < length (rows_of table.now) }
     requires second { o < length (rows_of table.now) }
@@ -91,7 +90,7 @@ fn sharing(table: &RowBuffer, analysis: &Analysis) -> Option<u8>
     Some(p as u8)
 }
 
-// The same as `admit`, of a table.
+// The analysis of a table, if it is admitted, or the fault that is found.
 fn admit_table(table: &RowBuffer) -> Result<Analysis, AdmissionFault>
     ensures { Judged (rows_of table.now) result }
 {
@@ -108,7 +107,9 @@ fn admit_table(table: &RowBuffer) -> Result<Analysis, AdmissionFault>
     }
 }
 
-// The analysis of an admitted table, or the fault: the earlier case first, and the lowest row of its sort.
+/// The analysis of the table of a source, if it is admitted, or the fault that is found: the earlier case first, and the lowest row of its sort.
+///
+/// Refused as 11, if there are no rows; as 12, if a number in a row is not below the count of rows; as 13, if a row offers two different inhabited element rows with a common label.
 pub fn admit<S: FormSource>(source: &S) -> Result<Analysis, AdmissionFault>
     ensures judged { Judged (S.FormSource.rows source.now) result }
     ensures one { AdmittedOrOneFault (S.FormSource.rows source.now) }

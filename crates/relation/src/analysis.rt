@@ -12,7 +12,7 @@ use forms::FormSource;
 use forms::buffer::RowBuffer;
 use sets;
 
-// Which rows each row offers, and which rows are inhabited.
+/// Which rows each row of a table offers, and which rows are inhabited.
 #[derive(Drop)]
 pub struct Analysis {
     offered: [u64; CELL_WORDS],
@@ -20,21 +20,21 @@ pub struct Analysis {
 }
 
 impl Analysis {
-    // Whether row p offers row o.
+    /// Whether row p offers row o.
     pub fn offers(&self, p: u8, o: u8) -> bool
         ensures { result ≡ (nat_lt o max_rows && cell self.now.offered p o) }
     {
         has(self.offered(), p as u16, o)
     }
 
-    // For each row the set of the rows that it offers.
+    /// For each row the set of the rows that it offers: row o belongs to that of row p by bit p × 64 + o.
     pub fn offered(&self) -> &[u64; CELL_WORDS]
         ensures { result.now ≡ self.now.offered }
     {
         &self.offered
     }
 
-    // Whether some document fits row p.
+    /// Whether some document fits row p.
     pub fn is_inhabited(&self, p: u8) -> bool
         ensures { result ≡ member self.now.inhabited p }
     {
@@ -52,7 +52,7 @@ pub(crate) fn analyze_table(table: &RowBuffer) -> Analysis
     }
 }
 
-// Works out which rows the rows of a source offer, and which are inhabited. A number past the table offers nothing.
+/// Works out which rows the rows of a source offer, and which are inhabited. A number past the table offers nothing.
 pub fn analyze<S: FormSource>(source: &S) -> Analysis
     ensures { Analyzed (S.FormSource.rows source.now) result }
 {

@@ -13,14 +13,14 @@ pub mod offering;
 use std::error::Error;
 use std::fmt;
 
-// Why a table is not admitted.
+/// Why a table is not admitted.
 #[derive(Clone, Copy, PartialEq, Eq, Debug)]
 pub enum AdmissionFault {
-    // there are no rows
+    /// 11: there are no rows
     NoRows,
-    // a number in this row is not that of a row
+    /// 12: a number in this row is not that of a row
     NumberOutside { row: u8 },
-    // this row offers two inhabited element rows with a common label
+    /// 13: this row offers two different inhabited element rows with a common label
     LabelTwice { row: u8 },
 }
 

@@ -10,14 +10,13 @@ use forms::buffer::RowBuffer;
 use forms::{MAX_ROWS, Row};
 use sets;
 
-// A set of rows has so many words.
+/// A set of rows has so many words.
 pub const ROW_WORDS: usize = MAX_ROWS / sets::WORD;
 
-// And a set of rows for each row has so many.
-// As it is: the marks of a fit are one slice of words by the format, and so are these, so that one definition says of both which bit is which.
+/// And a set of rows for each row has so many. They are one run of words, as the marks of a fit are, so that `has` reads both.
 pub const CELL_WORDS: usize = MAX_ROWS * ROW_WORDS;
 
-// Whether o belongs to the set of row p.
+/// Whether o belongs to the set of row p, of sets of rows that stand one after another. No, if p has no set there or o is no row number.
 pub fn has(cells: &[u64], p: u16, o: u8) -> bool
     ensures { result ≡ (nat_lt o max_rows && cell cells.now p o) }
 {

@@ -4,6 +4,7 @@ use forms::refusals::Refused;
 use forms::{Capability, Row};
 use relation::AdmissionFault;
 use relation::admission::{admit, meets};
+use std::test::Fail;
 
 fn fault(rows: &[Row]) -> Option<AdmissionFault> {
     admit(&RowBuffer::new(rows)).err()
@@ -139,10 +140,30 @@ fn number_outside_comes_first(rt: HostRuntime) {
 }
 
 #[test]
-fn faults_have_numbers(rt: HostRuntime) {
-    assert_eq!(rt; AdmissionFault::NoRows.number(), 11);
-    assert_eq!(rt; AdmissionFault::NumberOutside { row: 3 }.number(), 12);
-    assert_eq!(rt; AdmissionFault::LabelTwice { row: 3 }.number(), 13);
+fn faults_in_words(rt: HostRuntime) -> Result<(), Fail> {
+    let faults = [
+        (
+            AdmissionFault::NoRows,
+            11,
+            "the table is not admitted (11): it has no rows",
+        ),
+        (
+            AdmissionFault::NumberOutside { row: 3 },
+            12,
+            "the table is not admitted (12): row 3 has a number that is not that of a row",
+        ),
+        (
+            AdmissionFault::LabelTwice { row: 10 },
+            13,
+            "the table is not admitted (13): row 10 offers two different inhabited element rows with a common label",
+        ),
+    ];
+    for (fault, number, words) in faults.iter().copied() {
+        assert_eq!(rt; fault.number(), number);
+        let text = format!(in rt.alloc(); "{fault}")?;
+        assert_eq!(rt; text.as_str(), words);
+    }
+    Ok(())
 }
 
 #[test]

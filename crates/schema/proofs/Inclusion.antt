@@ -45,19 +45,22 @@ module _ (rows : List Row) where
   channel_alone e (right f u) = never (cc)
 
   -- what an inhabited element row has: parts that are inhabited, and a label
+  element_has : {e l i n : ℕ} → slice_get rows e ≡ Some (Element l i n) → Inhabited rows e → Inhabited rows i × Inhabited rows n × ((x : ℕ) × (belongs x l ≡ true))
+  element_has e (of_void f) = never (cc)
+  element_has e (of_channel f) = never (cc)
+  element_has {l} {i} {n} e (of_element {l = l'} {i = i'} {n = n'} x f m hi hn) =
+      let s : i' ≡ i = cc in
+      let t : n' ≡ n = cc in
+      let u : l' ≡ l = cc in
+      (subst (Inhabited rows) s hi, subst (Inhabited rows) t hn, (x, subst (λ y. belongs x y ≡ true) u m))
+  element_has e (of_left f h) = never (cc)
+  element_has e (of_right f h) = never (cc)
+
   pub element_parts : {e l i n : ℕ} → slice_get rows e ≡ Some (Element l i n) → Inhabited rows e → Inhabited rows i × Inhabited rows n
-  element_parts e (of_void f) = never (cc)
-  element_parts e (of_channel f) = never (cc)
-  element_parts {e = k} {i} {n} e (of_element {i = i'} {n = n'} x f m hi hn) = let s : i' ≡ i = cc in let t : n' ≡ n = cc in (subst (Inhabited rows) s hi, subst (Inhabited rows) t hn)
-  element_parts e (of_left f h) = never (cc)
-  element_parts e (of_right f h) = never (cc)
+  element_parts e h = let (a, b, _) = element_has e h in (a, b)
 
   pub element_label : {e l i n : ℕ} → slice_get rows e ≡ Some (Element l i n) → Inhabited rows e → (x : ℕ) × (belongs x l ≡ true)
-  element_label e (of_void f) = never (cc)
-  element_label e (of_channel f) = never (cc)
-  element_label {l} e (of_element {l = l'} x f m hi hn) = let s : l' ≡ l = cc in (x, subst (λ y. belongs x y ≡ true) s m)
-  element_label e (of_left f h) = never (cc)
-  element_label e (of_right f h) = never (cc)
+  element_label e h = (element_has e h).2
 
   -- what offers more fits more
   fits_more : (d : Document) {l p : ℕ} → ((o : ℕ) → Offers rows l o → Offers rows p o) → Fits rows d l → Fits rows d p

@@ -14,7 +14,9 @@ use Rattle.schema.specs.Rules.{Bounded, OffersVoid, OffersChannel, OffersElement
 use Rattle.schema.specs.Rules.◌⊑◌.{same, both}
 use Rattle.schema.proofs.Findings.{where_holds, both_hold, holds_or_not}
 use Rattle.narrowing.proofs.Striking.{each_below}
-use Rattle.schema.proofs.Offered.{offered_below, offers_or_not, inhabited_or_not, each_label}
+use Rattle.relation.proofs.Inhabitants.{inhabited_or_not}
+use Rattle.relation.proofs.Offered.{offered_below}
+use Rattle.schema.proofs.Offered.{offers_or_not, each_label}
 
 pub order_or_not : (k k' : Capability) → (k ⊑ k') ⊎ (k ⊑ k' → ⊥)
 order_or_not In In = inl same
@@ -56,56 +58,37 @@ module _ (rows : List Row) (bounded : Bounded rows) where
       go o u None e = inr (λ row _ e'. never (cc))
       go o u (Some row) e = ⊎_elim inl (λ h. inr (λ row' _ e'. let s : row ≡ row' = cc in subst (H o) s h)) (test o row u e)
 
-  void_or_not : (p : ℕ) → OffersVoid rows p ⊎ (OffersVoid rows p → ⊥)
-  void_or_not p = ⊎_elim inl (λ none. inr (λ v. none v.0 Void v.1 v.2)) (each_offered {H = λ _. NotVoid} p go)
-    where
-      NotVoid : Row → Type 0
-      NotVoid Void = ⊥
-      NotVoid Nothing = Unit {0}
-      NotVoid (Channel k s) = Unit {0}
-      NotVoid (Element l i n) = Unit {0}
-      NotVoid (Union l r) = Unit {0}
+  -- what holds of row o: V if it is void, C of the channel that it is, and E of the element that it is
+  abbrev Of : Type 0 → (Capability → ℕ → Type 0) → (ℕ → ℕ → ℕ → ℕ → Type 0) → ℕ → Row → Type 0
+  Of V C E o Void = V
+  Of V C E o Nothing = Unit {0}
+  Of V C E o (Channel k s) = C k s
+  Of V C E o (Element l i n) = E o l i n
+  Of V C E o (Union l r) = Unit {0}
 
-      go : (o : ℕ) (row : Row) → Offers rows p o → slice_get rows o ≡ Some row → OffersVoid rows p ⊎ NotVoid row
-      go o Void u e = inl (o, u, e)
+  each_row : {F V : Type 0} {C : Capability → ℕ → Type 0} {E : ℕ → ℕ → ℕ → ℕ → Type 0} (p : ℕ) → (OffersVoid rows p → F ⊎ V) → ((k : Capability) (s : ℕ) → OffersChannel rows p k s → F ⊎ C k s) →
+      ((o l i n : ℕ) → Offers rows p o → slice_get rows o ≡ Some (Element l i n) → F ⊎ E o l i n) → F ⊎ ((o : ℕ) (row : Row) → Offers rows p o → slice_get rows o ≡ Some row → Of V C E o row)
+  each_row {F} {V} {C} {E} p voids channels elements = each_offered {H = Of V C E} p go
+    where
+      go : (o : ℕ) (row : Row) → Offers rows p o → slice_get rows o ≡ Some row → F ⊎ Of V C E o row
+      go o Void u e = voids (o, u, e)
       go o Nothing u e = inr tt
-      go o (Channel k s) u e = inr tt
-      go o (Element l i n) u e = inr tt
+      go o (Channel k s) u e = channels k s (record { number = o; offered = u; is = e })
+      go o (Element l i n) u e = elements o l i n u e
       go o (Union l r) u e = inr tt
+
+  void_or_not : (p : ℕ) → OffersVoid rows p ⊎ (OffersVoid rows p → ⊥)
+  void_or_not p = ⊎_elim inl (λ none. inr (λ v. none v.0 Void v.1 v.2))
+      (each_row {V = ⊥} {C = λ k s. Unit {0}} {E = λ o l i n. Unit {0}} p inl (λ k s c. inr tt) (λ o l i n u e. inr tt))
 
   pub each_channel : {F : Type 0} {H : Capability → ℕ → Type 0} (p : ℕ) → ((k : Capability) (s : ℕ) → OffersChannel rows p k s → F ⊎ H k s) → F ⊎ ((k : Capability) (s : ℕ) → OffersChannel rows p k s → H k s)
-  each_channel {F} {H} p test = ⊎_elim inl (λ all. inr (λ k s c. all c.number (Channel k s) c.offered c.is)) (each_offered {H = λ _. OfChannel} p go)
-    where
-      OfChannel : Row → Type 0
-      OfChannel Void = Unit {0}
-      OfChannel Nothing = Unit {0}
-      OfChannel (Channel k s) = H k s
-      OfChannel (Element l i n) = Unit {0}
-      OfChannel (Union l r) = Unit {0}
-
-      go : (o : ℕ) (row : Row) → Offers rows p o → slice_get rows o ≡ Some row → F ⊎ OfChannel row
-      go o Void u e = inr tt
-      go o Nothing u e = inr tt
-      go o (Channel k s) u e = test k s (record { number = o; offered = u; is = e })
-      go o (Element l i n) u e = inr tt
-      go o (Union l r) u e = inr tt
+  each_channel {F} {H} p test = ⊎_elim inl (λ all. inr (λ k s c. all c.number (Channel k s) c.offered c.is))
+      (each_row {V = Unit {0}} {C = H} {E = λ o l i n. Unit {0}} p (λ v. inr tt) test (λ o l i n u e. inr tt))
 
   pub each_element : {F : Type 0} {H : ℕ → ℕ → ℕ → Type 0} (p : ℕ) → ((l i n : ℕ) → OffersElement rows p l i n → F ⊎ H l i n) → F ⊎ ((l i n : ℕ) → OffersElement rows p l i n → H l i n)
-  each_element {F} {H} p test = ⊎_elim inl (λ all. inr (λ l i n e. all e.number (Element l i n) e.offered e.is e.inhabited)) (each_offered {H = OfElement} p go)
-    where
-      OfElement : ℕ → Row → Type 0
-      OfElement o Void = Unit {0}
-      OfElement o Nothing = Unit {0}
-      OfElement o (Channel k s) = Unit {0}
-      OfElement o (Element l i n) = Inhabited rows o → H l i n
-      OfElement o (Union l r) = Unit {0}
-
-      go : (o : ℕ) (row : Row) → Offers rows p o → slice_get rows o ≡ Some row → F ⊎ OfElement o row
-      go o Void u e = inr tt
-      go o Nothing u e = inr tt
-      go o (Channel k s) u e = inr tt
-      go o (Element l i n) u e = ⊎_elim (λ inh. ⊎_elim inl (λ h. inr (λ _. h)) (test l i n (record { number = o; offered = u; is = e; inhabited = inh }))) (λ none. inr (λ inh. absurd (none inh))) (inhabited_or_not rows bounded o)
-      go o (Union l r) u e = inr tt
+  each_element {F} {H} p test = ⊎_elim inl (λ all. inr (λ l i n e. all e.number (Element l i n) e.offered e.is e.inhabited))
+      (each_row {V = Unit {0}} {C = λ k s. Unit {0}} {E = λ o l i n. Inhabited rows o → H l i n} p (λ v. inr tt) (λ k s c. inr tt)
+      (λ o l i n u e. where_holds (inhabited_or_not rows o) (λ inh. test l i n (record { number = o; offered = u; is = e; inhabited = inh }))))
 
   pub small : {p l i n : ℕ} → OffersElement rows p l i n → l < 2 ^ label_count
   small e = (bounded.inside e.number e.is).1

@@ -7,4 +7,5 @@ pub mod Published
 pub mod Leaning
 pub mod Fitting
 pub mod Undetermined
+pub mod Laws
 pub mod Worked

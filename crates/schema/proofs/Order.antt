@@ -9,10 +9,12 @@ use Rattle.forms.specs.Rows.{belongs}
 use Rattle.schema.specs.Rules.{Bounded, Determined, OffersElement, ◌⊑◌, Relation, Payloads, Keeps, Closed, Below, Covariant, Contravariant, Names}
 use Rattle.schema.specs.Rules.◌⊑◌.{same, both}
 use Rattle.schema.specs.Rules.Names.{receives, sends, inside, following}
-use Rattle.schema.specs.Theorems.{RulesAreDecided, Part, OfRows, LargestWithin, LargestWithinExists, Confined, ConfinedAgreesWithBelow, BelowIsClosedAndDecided, BelowIsReflexive, BelowIsTransitive}
+use Rattle.forms.specs.Schema.{Offers, Inhabited}
+use Rattle.schema.specs.Theorems.{Part, OfRows, LargestWithin, Confined, BelowIsReflexive, BelowIsTransitive}
 use Rattle.schema.proofs.Findings.{told, told_true, told_false}
 use Rattle.narrowing.proofs.Striking.{each_below, Lawful, left_after, left_start, contains_every, keeps_rule, takes_all, struck}
-use Rattle.schema.proofs.Offered.{offers_or_not, inhabited_or_not}
+use Rattle.relation.proofs.Inhabitants.{inhabited_or_not}
+use Rattle.schema.proofs.Offered.{offers_or_not}
 use Rattle.schema.proofs.Kept.{Fails, not_both, keeps_or_fails}
 
 -- payloads compare in S as they do in R, if S has those pairs of R that the capability compares
@@ -108,7 +110,8 @@ confined_closed rows C R confined closed p q h =
       agrees = λ e e' x b b'. let (a, f) = keeps.agrees e e' x b b' in (and_from _ _ (confined p q _ _ c (inside x e e' b b')) a, and_from _ _ (confined p q _ _ c (following x e e' b b')) f);
     }
 
-pub confined_agrees : ConfinedAgreesWithBelow
+-- so it is enough to look at such a C
+pub confined_agrees : (rows : List Row) (C S : Relation) → Confined rows C → LargestWithin rows C S → (p q : ℕ) → C p q ≡ true → Decides (S p q) (Below rows p q)
 confined_agrees rows C S confined is p q h =
     (λ e. (S, is.closed, e), λ (R, closed, e). is.largest (λ a b. C a b && R a b) (λ a b g. (and_parts _ _ g).0) (confined_closed rows C R confined closed) p q (and_from _ _ h e))
 
@@ -139,10 +142,6 @@ module _ (rows : List Row) (bounded : Bounded rows) where
   pub below_closed : Closed rows below
   unfolding below
   below_closed = (is_largest_within rows bounded (square rows) (square_out rows)).closed
-
-  pub below_square : Part below (square rows)
-  unfolding below
-  below_square = (is_largest_within rows bounded (square rows) (square_out rows)).part
 
   pub below_decides : (p q : ℕ) → p < length rows → q < length rows → Decides (below p q) (Below rows p q)
   unfolding below
@@ -222,11 +221,7 @@ reflexive rows determined p = (eqb, closed, eq-eqb p p refl)
 pub transitive : BelowIsTransitive
 transitive rows bounded p q r h g f a b = (two_steps rows bounded, two_steps_closed rows bounded, two_steps_in rows bounded p q r g ((below_decides rows bounded p q h g).1 a) ((below_decides rows bounded q r g f).1 b))
 
-pub largest_exists : LargestWithinExists
-largest_exists rows bounded C of_rows = (largest_within rows bounded C of_rows, is_largest_within rows bounded C of_rows)
-
-pub closed_and_decided : BelowIsClosedAndDecided
-closed_and_decided rows bounded = (below rows bounded, below_closed rows bounded, below_decides rows bounded)
-
-pub rules_are_decided : RulesAreDecided
-rules_are_decided rows bounded R p q = (offers_or_not rows bounded p q, inhabited_or_not rows bounded p, ⊎_elim (λ fails. inr (λ keeps-it. not_both keeps-it fails)) inl (keeps_or_fails rows bounded R p q))
+-- the rules can be decided, for any relation
+pub rules_are_decided : (rows : List Row) → Bounded rows → (R : Relation) (p q : ℕ) →
+    (Offers rows p q ⊎ (Offers rows p q → ⊥)) × (Inhabited rows p ⊎ (Inhabited rows p → ⊥)) × (Keeps rows R p q ⊎ (Keeps rows R p q → ⊥))
+rules_are_decided rows bounded R p q = (offers_or_not rows bounded p q, inhabited_or_not rows p, ⊎_elim (λ fails. inr (λ keeps-it. not_both keeps-it fails)) inl (keeps_or_fails rows bounded R p q))

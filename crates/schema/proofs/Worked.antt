@@ -1,9 +1,9 @@
 -- The worked table: each case by the pairs that it needs.
 use Rattle.forms.proofs.Findings.{never}
-use Rattle.std.proofs.Common.{◌≡◌, ℕ, ◌/◌, ◌%◌, ◌^◌, ◌<◌, true, false, ◌&&◌, ◌||◌, eqb, ◌⊎◌, List, [], ◌∷◌, Some, sym, refl, ap, ◌∙◌, subst, inl, inr, ⊎_elim, arith}
-use native.Mathlib.Nat.{pow-le-pow_right, div-eq_of_lt}
+use Rattle.std.proofs.Common.{◌≡◌, ℕ, true, false, ◌&&◌, ◌||◌, eqb, ◌⊎◌, List, [], ◌∷◌, Some, sym, refl, ap, ◌∙◌, subst, inl, inr, ⊎_elim, arith}
 use Rattle.std.specs.List.{AllByRecursion, slice_get}
-use Rattle.std.proofs.lemmas.Bool.{both_ways, cases_eq, cases_lt, eqb-true, and_parts, or_cases}
+use Rattle.std.proofs.lemmas.Bool.{both_ways, cases_eq, eqb-true, and_parts, or_cases}
+use Rattle.sets.proofs.Nexts.{bit_below}
 use Rattle.forms.specs.declared.Row.{Row}
 use Rattle.forms.specs.declared.Row.TheVariants.{Void, Channel, Element, Union}
 use Rattle.forms.specs.declared.Capability.{Capability}
@@ -22,23 +22,14 @@ use Rattle.schema.specs.Rules.Leans.{on_itself, on_named}
 use Rattle.schema.specs.Worked.{table, tally, Counts, Shows, alone, WorkedCases}
 
 -- LABELS
-small_label : (k x l : ℕ) → l < 2 ^ k → belongs x l ≡ true → x < k
-small_label k x l h e = ⊎_elim (λ less. less)
-    (λ more.
-    let small : l < 2 ^ x = omega (arith, pow-le-pow_right {n = 2} (omega arith) more) in
-    let none : l / 2 ^ x ≡ 0 = div-eq_of_lt small in
-    let one = eqb-true (l / 2 ^ x % 2) 1 e in
-    absurd (omega arith))
-    (cases_lt x k)
-
 label_of_two : (x : ℕ) → belongs x 2 ≡ true → x ≡ 1
-label_of_two x e = let h = small_label 2 x 2 (omega arith) e in ⊎_elim
+label_of_two x e = let h = bit_below 2 2 x (omega arith) e in ⊎_elim
     (λ z. absurd (both_ways (belongs 0 2) refl (subst (λ y. belongs y 2 ≡ true) z e)))
     (λ nz. omega arith)
     (cases_eq x 0)
 
 label_of_six : (x : ℕ) → belongs x 6 ≡ true → (x ≡ 1) ⊎ (x ≡ 2)
-label_of_six x e = let h = small_label 3 x 6 (omega arith) e in ⊎_elim
+label_of_six x e = let h = bit_below 6 3 x (omega arith) e in ⊎_elim
     (λ z. absurd (both_ways (belongs 0 6) refl (subst (λ y. belongs y 6 ≡ true) z e)))
     (λ nz. ⊎_elim inl (λ n1. inr (omega arith)) (cases_eq x 1))
     (cases_eq x 0)

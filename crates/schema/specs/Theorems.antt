@@ -1,14 +1,9 @@
 -- What is proved of tables of forms. Assumes nothing.
 use Rattle.std.specs.Prelude.{◌≡◌, ℕ, ◌<◌, true, ◌⊎◌, ◌↔◌, List, length, Decides}
 use Rattle.forms.specs.declared.Row.{Row}
-use Rattle.forms.specs.Schema.{Offers, Inhabited}
 use Rattle.forms.specs.Documents.{Document}
-use Rattle.schema.specs.Rules.{Bounded, Determined, Relation, Keeps, Closed, Below, Fits, IsDocument, Included, Names, Leans}
-
--- the rules can be decided, for any relation
-abbrev pub RulesAreDecided : Type 0
-RulesAreDecided = (rows : List Row) → Bounded rows → (R : Relation) (p q : ℕ) →
-    (Offers rows p q ⊎ (Offers rows p q → ⊥)) × (Inhabited rows p ⊎ (Inhabited rows p → ⊥)) × (Keeps rows R p q ⊎ (Keeps rows R p q → ⊥))
+use Rattle.schema.specs.Published.{PublishedIsBelow}
+use Rattle.schema.specs.Rules.{Bounded, Determined, Relation, Closed, Below, Fits, IsDocument, Included, Names, Leans}
 
 -- every pair of R is a pair of S
 abbrev pub Part : Relation → Relation → Type 0
@@ -24,20 +19,9 @@ pub record LargestWithin (rows : List Row) (C S : Relation) : Type 0 where
   pub closed : Closed rows S
   pub largest : (R : Relation) → Part R C → Closed rows R → Part R S
 
-abbrev pub LargestWithinExists : Type 0
-LargestWithinExists = (rows : List Row) → Bounded rows → (C : Relation) → OfRows rows C → (S : Relation) × LargestWithin rows C S
-
 -- the rules name for the pairs of C only pairs of C
 abbrev pub Confined : List Row → Relation → Type 0
 Confined rows C = (p q a b : ℕ) → C p q ≡ true → Names rows p q a b → C a b ≡ true
-
--- so it is enough to look at such a C
-abbrev pub ConfinedAgreesWithBelow : Type 0
-ConfinedAgreesWithBelow = (rows : List Row) (C S : Relation) → Confined rows C → LargestWithin rows C S → (p q : ℕ) → C p q ≡ true → Decides (S p q) (Below rows p q)
-
--- a relation that decides `Below` for all rows, and in which each pair keeps the rules
-abbrev pub BelowIsClosedAndDecided : Type 0
-BelowIsClosedAndDecided = (rows : List Row) → Bounded rows → (B : Relation) × Closed rows B × ((p q : ℕ) → p < length rows → q < length rows → Decides (B p q) (Below rows p q))
 
 abbrev pub BelowIsReflexive : Type 0
 BelowIsReflexive = (rows : List Row) → Determined rows → (p : ℕ) → Below rows p p
@@ -71,3 +55,14 @@ LeanedTellsBelow = (rows : List Row) (p q : ℕ) (L S : Relation) → ((a b : �
 -- Without `Determined` a row need not be below itself, though it is always included in itself.
 abbrev pub ReflexiveNeedsDetermined : Type 0
 ReflexiveNeedsDetermined = (rows : List Row) × Bounded rows × (p : ℕ) × (p < length rows) × (Below rows p p → ⊥)
+
+-- What holds of every table, whatever is asked about it: `Below` is inclusion of documents and the published relation, an order, and told by what a pair leans on.
+pub record BelowLaws : Type 0 where
+  pub sound : BelowIsSound
+  pub inclusion : BelowIsInclusion
+  pub witness : BelowOrWitness
+  pub published : PublishedIsBelow
+  pub reflexive : BelowIsReflexive
+  pub transitive : BelowIsTransitive
+  pub leans : LeansIsDecided
+  pub told : LeanedTellsBelow

@@ -1,8 +1,8 @@
 -- Narrowing a set of places gives the largest part of a relation all pairs of which keep the rules. Assumes nothing.
 use Rattle.forms.proofs.Findings.{never}
-use Rattle.std.proofs.Common.{◌≡◌, ℕ, ◌+◌, ◌*◌, ◌/◌, ◌%◌, ◌<◌, ◌≤◌, Bool, true, false, not, ◌&&◌, ◌||◌, eqb, ltb, ◌⊎◌, List, length, Decides, sym, refl, ap, ◌∙◌, subst, subst₂, ⊎_elim, Some, None, arith}
+use Rattle.std.proofs.Common.{◌≡◌, ℕ, ◌+◌, ◌*◌, ◌/◌, ◌%◌, ◌<◌, ◌≤◌, Bool, true, not, ◌&&◌, ◌||◌, eqb, ltb, List, length, Decides, sym, refl, ap, ◌∙◌, subst, subst₂, ⊎_elim, Some, None, arith}
 use Rattle.std.proofs.lemmas.Nat.{mul-add-lt, div-mul-add, mod-mul-add, mul-le, div-add-mod'}
-use Rattle.std.proofs.lemmas.Bool.{both_ways, cases_Bool, and_parts, and_from, and_left, and_right, cases_lt, cond-true, cond-false, lt-ltb, le-ltb, ltb-true, eqb-true, eq-eqb}
+use Rattle.std.proofs.lemmas.Bool.{both_ways, cases_Bool, and_parts, and_from, cases_lt, cond-true, cond-false, lt-ltb, le-ltb, ltb-true, eqb-true, eq-eqb}
 use Rattle.std.proofs.lemmas.Bool.Decides.{same_from_decides}
 use Rattle.sets.specs.Sets.{member}
 use Rattle.forms.specs.Limits.{max_rows}
@@ -23,11 +23,6 @@ between_parts n S p q h =
 
 pub between_from : (n : ℕ) (S : ℕ → Bool) (p q : ℕ) → p < n → q < n → S (p * n + q) ≡ true → between n S p q ≡ true
 between_from n S p q a b c = and_from (ltb p n) (ltb q n && S (p * n + q)) (lt-ltb p n a) (and_from (ltb q n) (S (p * n + q)) (lt-ltb q n b) c)
-
-pub between_out : (n : ℕ) (words : List ℕ) (p q : ℕ) → (n ≤ p) ⊎ (n ≤ q) → related n words p q ≡ false
-between_out n words p q = ⊎_elim
-    (λ h. and_left (ltb p n) (ltb q n && member words (p * n + q)) (le-ltb p n h))
-    (λ h. and_right (ltb p n) (ltb q n && member words (p * n + q)) (and_left (ltb q n) (member words (p * n + q)) (le-ltb q n h)))
 
 -- the place of a pair, and the pair of a place
 pub place_div : (n p q : ℕ) → q < n → (p * n + q) / n ≡ p

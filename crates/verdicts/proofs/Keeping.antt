@@ -16,8 +16,9 @@ use Rattle.forms.specs.declared.Capability.TheVariants.{In, Out, Both}
 use Rattle.relation.proofs.Labels.{meets_decides}
 use Rattle.schema.specs.Rules.{OffersVoid, OffersChannel, OffersElement, ◌⊑◌, Relation, Payloads, Keeps}
 use Rattle.schema.specs.Rules.◌⊑◌.{same, both}
-use Rattle.schema.proofs.Offered.{offering_below}
-use Rattle.verdicts.specs.Facts.{ready_of, determined_of}
+use Rattle.relation.proofs.Offered.{offering_below}
+use Rattle.verdicts.specs.Facts.{determined_of}
+use Rattle.verdicts.proofs.Facts.{ready_of}
 use Rattle.verdicts.specs.Reading.{LabelledBy, ChannelTaken}
 use Rattle.verdicts.specs.Ready.{in_row, labels_in}
 use Rattle.verdicts.specs.Tests.{capable, takes, meeting, agrees_at, agrees}

@@ -1,5 +1,5 @@
 -- What is done when nothing is pending any more is what the pair leans on. Assumes nothing.
-use Rattle.std.proofs.Common.{◌≡◌, ℕ, ◌+◌, ◌-◌, ◌*◌, ◌/◌, ◌%◌, ◌<◌, ◌≤◌, true, false, cond, ◌||◌, eqb, ◌⊎◌, List, length, replicate, is_some, Some, Decides, Option, sym, refl, ap, ◌∙◌, subst, subst₂, inl, inr, ⊎_elim, arith}
+use Rattle.std.proofs.Common.{◌≡◌, ℕ, ◌+◌, ◌-◌, ◌*◌, ◌/◌, ◌%◌, ◌<◌, ◌≤◌, true, false, ◌||◌, eqb, ◌⊎◌, List, length, replicate, is_some, Some, Decides, Option, sym, refl, ap, ◌∙◌, subst, subst₂, inl, inr, ⊎_elim, arith}
 use Rattle.std.proofs.lemmas.Nat.{mul-add-lt, div_below, mod_below, div-add-mod'}
 use Rattle.std.proofs.lemmas.Bool.{both_ways, cases_Bool, cases_eq, cases_lt, or_cases, or_left, or_right, or_from, eqb-true, eq-eqb, ne_eqb, cond-true, cond-false}
 use Rattle.sets.specs.Sets.{member, tally}
@@ -12,13 +12,13 @@ use Rattle.schema.specs.Rules.Leans.{on_itself, on_named}
 use Rattle.schema.specs.Theorems.{Confined}
 use Rattle.schema.proofs.Leaning.{leans_on}
 use Rattle.schema.proofs.Order.{square_in, square_out, square_confined}
-use Rattle.verdicts.specs.Naming.{NamedFor, Pended}
+use Rattle.verdicts.specs.Naming.{Pended}
 use Rattle.verdicts.specs.Pairs.{place_of, related, Leaned}
 use Rattle.verdicts.specs.declared.prepared.leaning.Met.{Met}
 use Rattle.verdicts.specs.declared.prepared.leaning.Walk.{Walk}
 use Rattle.verdicts.specs.Walking.{Notes, MetBy, Takes}
 use Rattle.verdicts.proofs.Deciding.{between_parts, between_from, pair_parts, place_div, place_mod, square_small}
-use Rattle.verdicts.proofs.Naming.{place_in, place_parts}
+use Rattle.verdicts.proofs.Naming.{NamedFor, place_in, place_parts}
 
 module _ (rows : List Row) (starts : List ℕ) where
   abbrev n : ℕ
@@ -47,81 +47,77 @@ module _ (rows : List Row) (starts : List ℕ) where
     closed = λ k j on. absurd (both_ways _ (zeros_none m k) on);
   }
 
-  module _ (done pending done' rest pending' : List ℕ) (k : ℕ) (l : Leaning done pending) (low : k < length rows * length rows) (small : k < max_rows * max_rows) (there : member pending k ≡ true)
-      (removed : (j : ℕ) → member rest j ≡ cond (eqb j k) false (member pending j))
-      (in_done : (j : ℕ) → member done' j ≡ (eqb j k || member done j))
-      (pended : Pended (NamedFor rows (k / length rows) (k % length rows)) done' rest pending') where
-    more_done : (j : ℕ) → member done j ≡ true → member done' j ≡ true
-    more_done j on = in_done j ∙ or_right (eqb j k) (member done j) on
+  -- one step of the walk: the pair at place k is taken, and what the rules name for it is noted
+  module _ (few : length rows ≤ max_rows) (old taken new : Walk) (pair : ℕ × ℕ) (l : Leaning old.done old.pending) (takes : Takes (length rows) pair old taken) (notes : Notes (NamedFor rows pair.0 pair.1) taken new) where
+    abbrev k : ℕ
+    k = takes.place
 
-    now_done : member done' k ≡ true
-    now_done = in_done k ∙ or_left (eqb k k) (member done k) (eq-eqb k k refl)
+    parts : (k < n * n) × (pair.0 ≡ k / n) × (pair.1 ≡ k % n)
+    parts = pair_parts n k pair takes.is
 
-    from_done : (j : ℕ) → member done' j ≡ true → (j ≡ k) ⊎ (member done j ≡ true)
-    from_done j on = ⊎_elim (λ e. inl (eqb-true j k e)) inr (or_cases (eqb j k) (member done j) (sym (in_done j) ∙ on))
+    in_done : (j : ℕ) → member new.done j ≡ (eqb j k || member old.done j)
+    in_done j = ap (λ d. member d j) notes.done ∙ takes.put j
+
+    pended : Pended (NamedFor rows (k / n) (k % n)) new.done taken.pending new.pending
+    pended =
+        let (_, first, second) = parts in
+        subst (λ d. Pended (NamedFor rows (k / n) (k % n)) d taken.pending new.pending) (sym notes.done)
+        (subst₂ (λ x y. Pended (NamedFor rows x y) taken.done taken.pending new.pending) first second notes.pended)
+
+    more_done : (j : ℕ) → member old.done j ≡ true → member new.done j ≡ true
+    more_done j on = in_done j ∙ or_right (eqb j k) (member old.done j) on
+
+    now_done : member new.done k ≡ true
+    now_done = in_done k ∙ or_left (eqb k k) (member old.done k) (eq-eqb k k refl)
+
+    from_done : (j : ℕ) → member new.done j ≡ true → (j ≡ k) ⊎ (member old.done j ≡ true)
+    from_done j on = ⊎_elim (λ e. inl (eqb-true j k e)) inr (or_cases (eqb j k) (member old.done j) (sym (in_done j) ∙ on))
 
     -- what was pending is done or pending
-    still : (j : ℕ) → member pending j ≡ true → (member done' j ≡ true) ⊎ (member pending' j ≡ true)
+    still : (j : ℕ) → member old.pending j ≡ true → (member new.done j ≡ true) ⊎ (member new.pending j ≡ true)
     still j on = ⊎_elim
-        (λ same. inl (subst (λ x. member done' x ≡ true) (sym same) now_done))
-        (λ other. inr (pended.more j (removed j ∙ cond-false (eqb j k) false (member pending j) (ne_eqb j k other) ∙ on)))
+        (λ same. inl (subst (λ x. member new.done x ≡ true) (sym same) now_done))
+        (λ other. inr (pended.more j (takes.rest j ∙ cond-false (eqb j k) false (member old.pending j) (ne_eqb j k other) ∙ on)))
         (cases_eq j k)
 
-    was : (j : ℕ) → member rest j ≡ true → (member pending j ≡ true) × (eqb j k ≡ false)
+    was : (j : ℕ) → member taken.pending j ≡ true → (member old.pending j ≡ true) × (eqb j k ≡ false)
     was j on = ⊎_elim
-        (λ e. absurd (both_ways _ (removed j ∙ cond-true (eqb j k) false (member pending j) e) on))
-        (λ ne. (sym (removed j ∙ cond-false (eqb j k) false (member pending j) ne) ∙ on, ne))
+        (λ e. absurd (both_ways _ (takes.rest j ∙ cond-true (eqb j k) false (member old.pending j) e) on))
+        (λ ne. (sym (takes.rest j ∙ cond-false (eqb j k) false (member old.pending j) ne) ∙ on, ne))
         (cases_Bool (eqb j k))
 
+    here : LeansAt k
+    here = l.sound_pending k parts.0 takes.there
+
     -- what is named for the pair at k is leaned on, for that pair is
-    named_leans : (j : ℕ) → NamedFor rows (k / length rows) (k % length rows) j → LeansAt j
+    named_leans : (j : ℕ) → NamedFor rows (k / n) (k % n) j → LeansAt j
     named_leans j (c, d, h, g, e, named) =
-        let (a, b, a<, b<, is, leaned) = l.sound_pending k low there in
+        let (a, b, a<, b<, is, leaned) = here in
         let (p, q, from, leans) = leaned in
         let at_a : k / n ≡ a = ap (λ x. x / n) is ∙ place_div n a b b< in
         let at_b : k % n ≡ b = ap (λ x. x % n) is ∙ place_mod n a b b< in
         (c, d, h, g, e, (p, q, from, leans_on leans (subst₂ (λ x y. Names rows x y c d) at_a at_b named)))
 
-    leaning_more : Leaning done' pending'
-    leaning_more = record {
-      sound_done = λ j on. ⊎_elim (λ same. subst LeansAt (sym same) (l.sound_pending k low there)) (l.sound_done j) (from_done j on);
-      sound_pending = λ j h on. ⊎_elim (λ old. l.sound_pending j h (was j old).0) (λ (named, _). named_leans j named) (pended.from j on);
-      apart = λ j on. ⊎_elim (λ old. let (before, other) = was j old in in_done j ∙ or_from (eqb j k) (member done j) other (l.apart j before)) (λ (_, off). off) (pended.from j on);
+    pub walk_more : Leaning new.done new.pending
+    walk_more = record {
+      sound_done = λ j on. ⊎_elim (λ same. subst LeansAt (sym same) here) (l.sound_done j) (from_done j on);
+      sound_pending = λ j h on. ⊎_elim (λ before. l.sound_pending j h (was j before).0) (λ (named, _). named_leans j named) (pended.from j on);
+      apart = λ j on. ⊎_elim (λ pending. let (before, other) = was j pending in in_done j ∙ or_from (eqb j k) (member old.done j) other (l.apart j before)) (λ (_, off). off) (pended.from j on);
       start = λ j h on. ⊎_elim (λ d. inl (more_done j d)) (still j) (l.start j h on);
       closed = λ i j on named. ⊎_elim
           (λ same. pended.has j (subst (λ x. NamedFor rows (x / n) (x % n) j) same named))
-          (λ old. ⊎_elim (λ d. inl (more_done j d)) (still j) (l.closed i j old named))
+          (λ before. ⊎_elim (λ d. inl (more_done j d)) (still j) (l.closed i j before named))
           (from_done i on);
     }
 
-    leaning_less : (m : ℕ) → m ≡ max_rows * max_rows → m - tally (member done') m < m - tally (member done) m
-    leaning_less m e =
-        let fewer = tally_fewer (member done) (member done') more_done k m (omega arith) now_done (l.apart k there) in
-        let most = tally_le (member done') m in
-        omega arith
-
-  -- one step of the walk: a pair is taken, and what the rules name for it is noted
-  module _ (few : length rows ≤ max_rows) (old taken new : Walk) (pair : ℕ × ℕ) (l : Leaning old.done old.pending) (takes : Takes (length rows) pair old taken) (notes : Notes (NamedFor rows pair.0 pair.1) taken new) where
-    parts : (takes.place < n * n) × (pair.0 ≡ takes.place / n) × (pair.1 ≡ takes.place % n)
-    parts = pair_parts n takes.place pair takes.is
-
-    small : takes.place < max_rows * max_rows
-    small = let (low, _, _) = parts in let room = square_small n few in omega arith
-
-    in_done : (j : ℕ) → member new.done j ≡ (eqb j takes.place || member old.done j)
-    in_done j = ap (λ d. member d j) notes.done ∙ takes.put j
-
-    pended : Pended (NamedFor rows (takes.place / n) (takes.place % n)) new.done taken.pending new.pending
-    pended =
-        let (_, first, second) = parts in
-        subst (λ d. Pended (NamedFor rows (takes.place / n) (takes.place % n)) d taken.pending new.pending) (sym notes.done)
-        (subst₂ (λ x y. Pended (NamedFor rows x y) taken.done taken.pending new.pending) first second notes.pended)
-
-    pub walk_more : Leaning new.done new.pending
-    walk_more = leaning_more old.done old.pending new.done taken.pending new.pending takes.place l parts.0 small takes.there takes.rest in_done pended
-
     pub walk_less : (m : ℕ) → m ≡ max_rows * max_rows → m - tally (member new.done) m < m - tally (member old.done) m
-    walk_less = leaning_less old.done old.pending new.done taken.pending new.pending takes.place l parts.0 small takes.there takes.rest in_done pended
+    walk_less m e =
+        let (low, _, _) = parts in
+        let room = square_small n few in
+        let small : k < m = omega arith in
+        let fewer = tally_fewer (member old.done) (member new.done) more_done k m small now_done (l.apart k takes.there) in
+        let most = tally_le (member new.done) m in
+        omega arith
 
   module _ (bounded : Bounded rows) (done pending : List ℕ) (l : Leaning done pending) (none : (j : ℕ) → j < length rows * length rows → member pending j ≡ false) where
     leans_sound : (a b : ℕ) → related n done a b ≡ true → Leaned rows starts a b

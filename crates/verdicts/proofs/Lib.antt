@@ -1,3 +1,5 @@
+pub mod Sorts
+pub mod Facts
 pub mod Gathering
 pub mod Walks
 pub mod Labelling

@@ -4,7 +4,7 @@ use Rattle.std.proofs.lemmas.Bool.{both_ways}
 use Rattle.forms.specs.Limits.{max_rows}
 use Rattle.forms.specs.declared.Row.{Row}
 use Rattle.sets.specs.Sets.{member}
-use Rattle.verdicts.specs.Naming.{NamedAmong, NamedFor, Pended}
+use Rattle.verdicts.specs.Naming.{NamedAmong, Pended}
 use Rattle.verdicts.specs.Pairs.{place_of}
 use Rattle.verdicts.specs.Ready.{in_row}
 use Rattle.verdicts.specs.Tables.{rows_in}
@@ -12,7 +12,7 @@ use Rattle.verdicts.specs.Walking.{Notes, MetBy}
 use Rattle.verdicts.specs.declared.prepared.Prepared.{Prepared}
 use Rattle.verdicts.specs.declared.prepared.leaning.Met.{Met}
 use Rattle.verdicts.specs.declared.prepared.leaning.Walk.{Walk}
-use Rattle.verdicts.proofs.Naming.{named_is, is_named}
+use Rattle.verdicts.proofs.Naming.{NamedFor, named_is, is_named}
 use Rattle.verdicts.proofs.Walks.{in_row_below, Found, walk_split}
 
 pub pended_then : {P Q : ℕ → Type 0} {done old mid new : List ℕ} → Pended P done old mid → Pended Q done mid new → Pended (λ k. P k ⊎ Q k) done old new

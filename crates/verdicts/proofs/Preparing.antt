@@ -10,9 +10,9 @@ use Rattle.relation.specs.Admission.{Admitted}
 use Rattle.relation.specs.Cells.{cell}
 use Rattle.relation.specs.Judged.{Analyzed}
 use Rattle.relation.specs.declared.analysis.Analysis.{Analysis}
-use Rattle.schema.proofs.Offered.{offered_below, offering_below}
+use Rattle.relation.proofs.Offered.{offered_below, offering_below}
 use Rattle.verdicts.specs.Kinds.{void_row, channel_row, element_row}
-use Rattle.verdicts.specs.Sorts.{void_tells, channel_tells, element_tells}
+use Rattle.verdicts.proofs.Sorts.{void_tells, channel_tells, element_tells}
 use Rattle.forms.specs.Schema.{IsChannel}
 use Rattle.verdicts.specs.Ready.{in_row, IsVoid, IsElement, Sorted, Ready, Labelling}
 use Rattle.verdicts.specs.Sorting.{of_sort, picked}

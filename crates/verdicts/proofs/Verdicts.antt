@@ -2,6 +2,7 @@
 use Rattle.std.proofs.Common.{◌≡◌, ℕ, ◌+◌, ◌*◌, ◌<◌, true, ltb, List, length, ◌∙◌, ⊎_elim}
 use Rattle.std.proofs.lemmas.Nat.{mul-add-lt}
 use Rattle.std.proofs.lemmas.Bool.{both_ways, lt-ltb}
+use Rattle.std.proofs.lemmas.Bool.Decides.{Decides-like}
 use Rattle.sets.specs.Sets.{member}
 use Rattle.forms.specs.declared.Row.{Row}
 use Rattle.schema.specs.Rules.{Bounded, Determined, Relation, Below, Included}
@@ -35,14 +36,10 @@ module _ (rows : List Row) (bounded : Bounded rows) (determined : Determined row
   verdicts_below p q a b = confined_agrees rows (all_pairs n) R (square_confined rows bounded) verdicts_largest p q (square_in rows p q a b)
 
   pub verdicts_included : Tells rows (related (length rows) words) (Included rows)
-  verdicts_included p q a b =
-      let (to, from) = below_is_inclusion rows bounded determined p q a b in
-      (λ h. to ((verdicts_below p q a b).0 h), λ i. (verdicts_below p q a b).1 (from i))
+  verdicts_included p q a b = let (to, from) = below_is_inclusion rows bounded determined p q a b in Decides-like _ to from (verdicts_below p q a b)
 
   pub verdicts_published : Tells rows (related (length rows) words) (Subschema rows)
-  verdicts_published p q a b =
-      let (to, from) = published_is_below rows determined p q in
-      (λ h. from ((verdicts_below p q a b).0 h), λ s. (verdicts_below p q a b).1 (to s))
+  verdicts_published p q a b = let (to, from) = published_is_below rows determined p q in Decides-like _ from to (verdicts_below p q a b)
 
   pub verdicts_witness : Witnessed rows (related (length rows) words)
   verdicts_witness p q a b off = ⊎_elim (λ below. absurd (both_ways (R p q) off ((verdicts_below p q a b).1 below))) (λ w. w) (below_or_witness rows bounded determined p q a b)

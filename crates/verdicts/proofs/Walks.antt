@@ -1,5 +1,5 @@
 -- The set of one row, as part of the sets of all rows, and going through its members. Assumes nothing.
-use Rattle.std.proofs.Common.{◌≡◌, ℕ, ◌+◌, ◌-◌, ◌*◌, ◌/◌, ◌%◌, ◌<◌, ◌≤◌, Bool, true, false, ◌&&◌, ltb, ◌⊎◌, List, length, take, drop, sym, ap, ◌∙◌, subst, inl, inr, ⊎_elim, mul_left_comm, arith, length-drop, length-take, get_or-drop, get_or-take, Option, Some, None, Bor, refl}
+use Rattle.std.proofs.Common.{◌≡◌, ℕ, ◌+◌, ◌-◌, ◌*◌, ◌/◌, ◌%◌, ◌<◌, ◌≤◌, Bool, true, false, ◌&&◌, ltb, ◌⊎◌, List, length, take, drop, sym, ap, ◌∙◌, inl, inr, ⊎_elim, mul_left_comm, arith, length-drop, length-take, get_or-drop, get_or-take, Option, Some, None, Bor, refl}
 use Rattle.std.specs.Slice.{IsGetRangeResult}
 use Rattle.std.proofs.lemmas.Bool.{cases_lt, lt-ltb, le-ltb, and_left, and_parts, ltb-true, both_ways}
 use Rattle.sets.specs.Sets.{bit, member, word}
@@ -66,14 +66,3 @@ module _ (f : ℕ → Bool) where
 
   pub walk_end : (from : ℕ) → Missing from → (e : ℕ) → f e ≡ true → e < from
   walk_end from none e m = ⊎_elim (λ h. h) (λ ge. absurd (both_ways (f e) (none e ge) m)) (cases_lt e from)
-
-  -- going through a set: P holds of each member before the place
-  module _ (P : ℕ → Type 0) where
-    abbrev pub Passed : ℕ → Type 0
-    Passed from = (e : ℕ) → e < from → f e ≡ true → P e
-
-    pub passed_more : (from o : ℕ) → Found from o → Passed from → P o → Passed (o + 1)
-    passed_more from o found passed here e h m = ⊎_elim (λ less. passed e less m) (λ same. subst P (sym same) here) (walk_split from o found e h m)
-
-    pub passed_all : (from : ℕ) → Missing from → Passed from → (e : ℕ) → f e ≡ true → P e
-    passed_all from none passed e m = passed e (walk_end from none e m) m

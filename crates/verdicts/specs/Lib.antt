@@ -1,9 +1,9 @@
 pub mod Pairs
 pub mod Ready
 pub mod Kinds
-pub mod Sorts
 pub mod Sorting
 pub mod Facts
+pub mod Faults
 pub mod Tests
 pub mod Asking
 pub mod Naming

@@ -1,12 +1,11 @@
 -- The pairs that the rules name for two rows, as tests, and what is pending after they were noted. Assumes nothing.
-use Rattle.std.specs.Prelude.{◌≡◌, ℕ, ◌+◌, ◌*◌, ◌<◌, Bool, true, false, cond, ◌⊎◌, List, [], ◌∷◌, length, Some, None, Option}
+use Rattle.std.specs.Prelude.{◌≡◌, ℕ, Bool, true, false, cond, ◌⊎◌, List, [], ◌∷◌, length, Some, None, Option}
 use Rattle.std.specs.List.{slice_get}
 use Rattle.sets.specs.Sets.{member}
 use Rattle.forms.specs.declared.Row.{Row}
 use Rattle.forms.specs.declared.Row.TheVariants.{Void, Nothing, Channel, Element, Union}
 use Rattle.forms.specs.declared.Capability.{Capability}
 use Rattle.forms.specs.declared.Capability.TheVariants.{In, Out, Both}
-use Rattle.schema.specs.Rules.{Names}
 use Rattle.verdicts.specs.Pairs.{place_of}
 use Rattle.verdicts.specs.Ready.{in_row}
 use Rattle.verdicts.specs.Tests.{meeting}
@@ -73,10 +72,6 @@ NamedWith rows cells c q k = (d : ℕ) × (in_row cells q d ≡ true) × NamedAt
 -- of the rows c and q that met has, the pairs that are named are done or pending
 abbrev pub Noted : List Row → List ℕ → List ℕ → List ℕ → List ℕ → Type 0
 Noted rows cells met done pending = (c q k : ℕ) → in_row met c q ≡ true → NamedWith rows cells c q k → (member done k ≡ true) ⊎ (member pending k ≡ true)
-
--- the rules name the pair at place k for the pair (p, q)
-abbrev pub NamedFor : List Row → ℕ → ℕ → ℕ → Type 0
-NamedFor rows p q k = (a b : ℕ) × (a < length rows) × (b < length rows) × (k ≡ a * length rows + b) × Names rows p q a b
 
 -- the places that P names are pending now, but for those that are done
 pub record Pended (P : ℕ → Type 0) (done old new : List ℕ) : Type 0 where

@@ -10,6 +10,10 @@ abbrev pub place_of : ℕ → Option (ℕ × ℕ) → Option ℕ
 place_of n None = None
 place_of n (Some pair) = cond (nat_lt pair.0 n && nat_lt pair.1 n) (Some (pair.0 * n + pair.1)) None
 
+-- both are rows of the table
+abbrev pub InTable : List Row → ℕ → ℕ → Type 0
+InTable rows p q = (p < length rows) × (q < length rows)
+
 -- the pair of n rows that has place k
 abbrev pub pair_of : ℕ → ℕ → Option (ℕ × ℕ)
 pair_of n k = cond (nat_lt k (n * n)) (Some (k / n, k % n)) None

@@ -47,8 +47,3 @@ agrees R (Some Nothing) other = true
 agrees R (Some (Channel k s)) other = true
 agrees R (Some (Element l i n)) other = agrees_at R l i n other
 agrees R (Some (Union l r)) other = true
-
--- the relation has the pair, if there is one
-abbrev pub related_if : Relation → Option (ℕ × ℕ) → Bool
-related_if R None = true
-related_if R (Some pair) = R pair.0 pair.1

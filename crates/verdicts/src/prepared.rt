@@ -6,8 +6,8 @@ use forms::MAX_ROWS;
 use forms::buffer::RowBuffer;
 use relation::offering::CELL_WORDS;
 
-// The rows, and for each row the void rows, the channel rows and the inhabited element rows that it offers, and the labels of the latter.
-// As it is: each sort has one array of the sets of all rows, since the rules go through channel rows and element rows by the same functions, which are handed the sets of a sort. Of an array with a struct for each row they would have to be told which field to read.
+/// An admitted table: its rows, and for each row the void rows, the channel rows and the inhabited element rows that it offers, and the labels of the latter.
+// Each sort has one array of the sets of all rows, since channel rows and element rows are gone through by the same functions, which are handed the sets of a sort.
 #[derive(Drop)]
 pub struct Prepared {
     table: RowBuffer,

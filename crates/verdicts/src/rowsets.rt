@@ -9,8 +9,7 @@ ghost use Rattle.verdicts.specs.RowSets.{row_set, WordsOf};
 use relation::offering::ROW_WORDS;
 use sets;
 
-// The set of one row. It goes through its members, from the lowest to the highest.
-// As it is: it holds no `sets::Members`, whose words only that crate can read. `meets` would need them beside it, with two facts on the type: that both are the same, and no longer than a row's, so that a member is a `u8`.
+/// The set of one row. It goes through its members, from the lowest to the highest.
 #[derive(Clone, Copy)]
 pub struct RowSet<'a> {
     cells: &'a [u64],
@@ -39,7 +38,7 @@ impl<'a> RowSet<'a> {
         self.cells.get(first..first + ROW_WORDS)
     }
 
-    // Whether it has a row that is among the given ones.
+    /// Whether it has a row that is among the given ones.
     pub fn meets(&self, rows: &[u64]) -> bool
         ensures { Decides result ((o : ℕ) × (row_set self.now o ≡ true) × (member rows.now o ≡ true)) }
     {

@@ -20,8 +20,8 @@ pub(crate) fn ask_all(
         if !kept {
             known = [0; PAIR_WORDS];
         }
-        assert_eq!(rt; table.below(pair), yes);
-        assert_eq!(rt; table.relates(&verdicts, pair.0, pair.1), yes);
+        assert_eq!(rt; table.below(pair)?, yes);
+        assert_eq!(rt; table.relates(&verdicts, pair), yes);
         assert_eq!(rt; sets::join(&mut known, &table.leaned(pair)), count);
     }
     Ok(())

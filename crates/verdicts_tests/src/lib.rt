@@ -6,4 +6,6 @@ mod asking;
 #[cfg(test)]
 mod literature;
 #[cfg(test)]
+mod refusing;
+#[cfg(test)]
 mod worked;

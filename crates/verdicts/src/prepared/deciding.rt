@@ -2,7 +2,7 @@
 ghost use Rattle.std.specs.Prelude.{◌≡◌, ℕ, ◌*◌, ◌<◌, ◌≤◌, true, false, Decides, nat_lt};
 ghost use Rattle.sets.specs.Sets.{member};
 ghost use Rattle.schema.specs.Rules.{Below, Included};
-ghost use Rattle.schema.specs.Theorems.{LargestWithin, Confined};
+ghost use Rattle.schema.specs.Theorems.{LargestWithin, Confined, BelowLaws};
 ghost use Rattle.schema.specs.Published.{Subschema};
 ghost use Rattle.schema.specs.Worked.{WorkedCases};
 ghost use Rattle.verdicts.specs.Asking.{asks, asks_lawful};
@@ -16,7 +16,7 @@ use narrowing;
 use narrowing::Rule;
 use sets;
 
-// A set of pairs of rows has so many words.
+/// A set of pairs of rows has so many words. The pair (p, q) of n rows is bit p × n + q.
 pub const PAIR_WORDS: usize = MAX_ROWS * MAX_ROWS / sets::WORD;
 
 // The rule of the pairs that keep the rules within a set.
@@ -47,7 +47,7 @@ impl Prepared {
         sets::first(n * n)
     }
 
-    // Leaves of a set of pairs its largest part all pairs of which keep the rules within it. Places that are no pair's stay.
+    /// Leaves of a set of pairs its largest part all pairs of which keep the rules within it. Places that are no pair's stay.
     pub fn narrow(&self, pairs: &mut [u64])
         ensures largest { LargestWithin (rows_in self.now) (related_in self.now pairs.old) (related_in self.now pairs.new) }
         ensures confined { Confined (rows_in self.now) (related_in self.now pairs.old) → (p q : ℕ) → related_in self.now pairs.old p q ≡ true → Decides (related_in self.now pairs.new p q) (Below (rows_in self.now) p q) }
@@ -56,7 +56,7 @@ impl Prepared {
         narrowing::narrow(&Keeping { prepared: self }, pairs);
     }
 
-    // Of each pair of rows, whether the first is below the second: whether every document that fits the first fits the second.
+    /// Of each pair of rows, whether the first is below the second: whether every document that fits the first fits the second. Of each pair for which that is not so, some document shows it.
     pub fn verdicts(&self) -> [u64; PAIR_WORDS]
         ensures below { Tells (rows_in self.now) (related_in self.now result) (Below (rows_in self.now)) }
         ensures largest { LargestWithin (rows_in self.now) (all_pairs (count_in self.now)) (related_in self.now result) }
@@ -66,6 +66,7 @@ impl Prepared {
         ensures reflexive { (p : ℕ) → p < count_in self.now → related_in self.now result p p ≡ true }
         ensures transitive { Transitive (related_in self.now result) }
         ensures rest { (k : ℕ) → count_in self.now * count_in self.now ≤ k → member result k ≡ false }
+        ensures laws { BelowLaws }
         ensures worked { WorkedCases }
     {
         let mut pairs = self.square();

@@ -6,14 +6,14 @@ ghost use Rattle.forms.specs.Rows.{belongs};
 ghost use Rattle.schema.specs.Rules.{OffersVoid, Keeps};
 ghost use Rattle.verdicts.specs.Reading.{LabelledBy, ChannelTaken};
 ghost use Rattle.verdicts.specs.Ready.{in_row};
-ghost use Rattle.verdicts.specs.Tests.{takes, agrees_at, agrees, related_if};
+ghost use Rattle.verdicts.specs.Tests.{capable, takes, agrees_at, agrees};
 ghost use Rattle.verdicts.specs.Tables.{rows_in, count_in, related_in};
 ghost use Rattle.verdicts.specs.Within.{rows_within, relation_of};
 
 use super::super::rowsets::RowSet;
 use super::Prepared;
-use super::naming::{named_by_channel, named_by_element};
 use forms::{Capability, FormSource, Row};
+use relation::admission::meets;
 use relation::offering::has;
 use sets;
 
@@ -33,40 +33,55 @@ struct Within<'a> {
 
 impl<'a> Within<'a> {
     // Whether the set has the pair.
-    fn relates(&self, p: u8, q: u8) -> bool
-        ensures { result ≡ relation_of self.now p q }
+    fn relates(&self, pair: (u8, u8)) -> bool
+        ensures { result ≡ relation_of self.now pair.0 pair.1 }
     {
-        self.prepared.relates(self.pairs, p, q)
+        self.prepared.relates(self.pairs, pair)
     }
 
-    // Whether the set has the pair, if there is one.
-    fn relates_named(&self, pair: Option<(u8, u8)>) -> bool
-        ensures { result ≡ related_if (relation_of self.now) pair }
+    // Whether a channel is below another: both is at most in and at most out, payloads of in channels compare forward, those of out channels backward, and of both both ways.
+    // The rule stands here as one match of the two capabilities, a guard for each payload direction, so that it is read, and checked against the rules, at one glance. The pairs that `naming` lists say what a pair leans on, and do not decide it.
+    fn channel_below(&self, c: (Capability, u8), d: (Capability, u8)) -> bool
+        ensures { result ≡ capable c.0 d.0 (relation_of self.now c.1 d.1) (relation_of self.now d.1 c.1) }
     {
-        match pair {
-            Some((p, q)) => self.relates(p, q),
-            None => true,
+        match (c.0, d.0) {
+            (Capability::In | Capability::Both, Capability::In) if self.relates((c.1, d.1)) => true,
+            (Capability::Out | Capability::Both, Capability::Out) if self.relates((d.1, c.1)) =>
+                true,
+            (Capability::Both, Capability::Both)
+                if self.relates((c.1, d.1)) && self.relates((d.1, c.1)) => true,
+            _ => false,
         }
     }
 
-    // Whether row d is a channel row that the channel is below: the rules name pairs for the two, all of which the set has.
+    // Whether row d is a channel row that the channel is below.
     fn takes(&self, c: (Capability, u8), d: u8) -> bool
         ensures { result ≡ takes (relation_of self.now) c.0 c.1 (slice_get (rows_within self.now) d) }
     {
-        let named = named_by_channel(c, self.prepared.table.row(d));
-        named.iter().any(|pair| pair.is_some())
-            && named.iter().all(|pair| self.relates_named(*pair))
+        match self.prepared.table.row(d) {
+            Some(Row::Channel(capability, payload)) => self.channel_below(c, (capability, payload)),
+            _ => false,
+        }
     }
 
-    // Whether the set has the pairs that the rules name for an element row and row f.
+    // Whether the parts of an element row are below those of row f, if that is an element row with a common label.
     fn agrees_at(&self, labels: u64, parts: (u8, u8), f: u8) -> bool
         ensures { result ≡ agrees_at (relation_of self.now) labels parts.0 parts.1 (slice_get (rows_within self.now) f) }
     {
-        let named = named_by_element(labels, parts, self.prepared.table.row(f));
-        named.iter().all(|pair| self.relates_named(*pair))
+        match self.prepared.table.row(f) {
+            Some(
+                Row::Element {
+                    labels: other,
+                    inside,
+                    following,
+                },
+            ) => !meets(labels, other)
+                || (self.relates((parts.0, inside)) && self.relates((parts.1, following))),
+            _ => true,
+        }
     }
 
-    // The same of two rows, of which the first is given.
+    // Whether a row, if it is an element row, agrees so with row f.
     fn agrees(&self, row: Option<Row>, f: u8) -> bool
         ensures { result ≡ agrees (relation_of self.now) row (slice_get (rows_within self.now) f) }
     {
@@ -82,31 +97,31 @@ impl<'a> Within<'a> {
         }
     }
 
-    // Whether row q offers a channel row that the channel is below. The likeliest is asked first.
-    fn taken(&self, c: (Capability, u8), likely: u8, q: u8) -> bool
-        ensures { Decides result ((d : ℕ) × (in_row self.now.prepared.now.channels q d ≡ true) × (takes (relation_of self.now) c.0 c.1 (slice_get (rows_within self.now) d) ≡ true)) }
+    // Whether the channel in the first row of a pair is below a channel row that the second offers. The first row itself is the likeliest, and is asked first.
+    fn taken(&self, c: (Capability, u8), pair: (u8, u8)) -> bool
+        ensures { Decides result ((d : ℕ) × (in_row self.now.prepared.now.channels pair.1 d ≡ true) × (takes (relation_of self.now) c.0 c.1 (slice_get (rows_within self.now) d) ≡ true)) }
     {
-        if has(&self.prepared.channels, q as u16, likely) && self.takes(c, likely) {
+        if has(&self.prepared.channels, pair.1 as u16, pair.0) && self.takes(c, pair.0) {
             return true;
         }
-        RowSet::of(&self.prepared.channels, q).any(|d| self.takes(c, d))
+        RowSet::of(&self.prepared.channels, pair.1).any(|d| self.takes(c, d))
     }
 
-    // The same, of row c, if it is a channel row.
-    fn takes_channel(&self, c: u8, q: u8) -> bool
-        ensures { Decides result (ChannelTaken (rows_within self.now) (relation_of self.now) c q) }
+    // Whether the first row of a pair, if it is a channel row, is below a channel row that the second offers.
+    fn takes_channel(&self, pair: (u8, u8)) -> bool
+        ensures { Decides result (ChannelTaken (rows_within self.now) (relation_of self.now) pair.0 pair.1) }
     {
-        match self.prepared.table.row(c) {
-            Some(Row::Channel(capability, payload)) => self.taken((capability, payload), c, q),
+        match self.prepared.table.row(pair.0) {
+            Some(Row::Channel(capability, payload)) => self.taken((capability, payload), pair),
             _ => true,
         }
     }
 
-    // The same, of all channel rows that row p offers.
-    fn rows_taken(&self, p: u8, q: u8) -> bool
-        ensures { Decides result ((c : ℕ) → in_row self.now.prepared.now.channels p c ≡ true → ChannelTaken (rows_within self.now) (relation_of self.now) c q) }
+    // Whether each channel row that the first row of a pair offers is below one that the second offers.
+    fn rows_taken(&self, pair: (u8, u8)) -> bool
+        ensures { Decides result ((c : ℕ) → in_row self.now.prepared.now.channels pair.0 c ≡ true → ChannelTaken (rows_within self.now) (relation_of self.now) c pair.1) }
     {
-        RowSet::of(&self.prepared.channels, p).all(|c| self.takes_channel(c, q))
+        RowSet::of(&self.prepared.channels, pair.0).all(|c| self.takes_channel((c, pair.1)))
     }
 
     // Whether a row agrees with all inhabited element rows that row q offers.
@@ -116,34 +131,34 @@ impl<'a> Within<'a> {
         RowSet::of(&self.prepared.elements, q).all(|f| self.agrees(row, f))
     }
 
-    // The same, of row e. If q offers it, no other that q offers has a label in common with it.
-    fn element_agrees(&self, e: u8, q: u8) -> bool
-        ensures { Decides result ((f : ℕ) → in_row self.now.prepared.now.elements q f ≡ true → agrees (relation_of self.now) (slice_get (rows_within self.now) e) (slice_get (rows_within self.now) f) ≡ true) }
+    // Whether the first row of a pair agrees with all inhabited element rows that the second offers. If it is one of them, no other has a label in common with it.
+    fn element_agrees(&self, pair: (u8, u8)) -> bool
+        ensures { Decides result ((f : ℕ) → in_row self.now.prepared.now.elements pair.1 f ≡ true → agrees (relation_of self.now) (slice_get (rows_within self.now) pair.0) (slice_get (rows_within self.now) f) ≡ true) }
     {
-        let row = self.prepared.table.row(e);
-        if has(&self.prepared.elements, q as u16, e) {
-            return self.agrees(row, e);
+        let row = self.prepared.table.row(pair.0);
+        if has(&self.prepared.elements, pair.1 as u16, pair.0) {
+            return self.agrees(row, pair.0);
         }
-        self.row_agrees(row, q)
+        self.row_agrees(row, pair.1)
     }
 
-    // The same, of all inhabited element rows that row p offers.
-    fn rows_agree(&self, p: u8, q: u8) -> bool
-        ensures { Decides result ((e : ℕ) → in_row self.now.prepared.now.elements p e ≡ true → (f : ℕ) → in_row self.now.prepared.now.elements q f ≡ true → agrees (relation_of self.now) (slice_get (rows_within self.now) e) (slice_get (rows_within self.now) f) ≡ true) }
+    // Whether each inhabited element row that the first row of a pair offers agrees with all that the second offers.
+    fn rows_agree(&self, pair: (u8, u8)) -> bool
+        ensures { Decides result ((e : ℕ) → in_row self.now.prepared.now.elements pair.0 e ≡ true → (f : ℕ) → in_row self.now.prepared.now.elements pair.1 f ≡ true → agrees (relation_of self.now) (slice_get (rows_within self.now) e) (slice_get (rows_within self.now) f) ≡ true) }
     {
-        RowSet::of(&self.prepared.elements, p).all(|e| self.element_agrees(e, q))
+        RowSet::of(&self.prepared.elements, pair.0).all(|e| self.element_agrees((e, pair.1)))
     }
 
-    // Whether row q takes all channel rows that row p offers, and agrees with the element rows.
-    fn parts_kept(&self, p: u8, q: u8) -> bool
-        ensures { Decides result (((c : ℕ) → in_row self.now.prepared.now.channels p c ≡ true → ChannelTaken (rows_within self.now) (relation_of self.now) c q) × ((e : ℕ) → in_row self.now.prepared.now.elements p e ≡ true → (f : ℕ) → in_row self.now.prepared.now.elements q f ≡ true → agrees (relation_of self.now) (slice_get (rows_within self.now) e) (slice_get (rows_within self.now) f) ≡ true)) }
+    // Whether the pair keeps the rules for channel rows, and agrees in its element rows.
+    fn parts_kept(&self, pair: (u8, u8)) -> bool
+        ensures { Decides result (((c : ℕ) → in_row self.now.prepared.now.channels pair.0 c ≡ true → ChannelTaken (rows_within self.now) (relation_of self.now) c pair.1) × ((e : ℕ) → in_row self.now.prepared.now.elements pair.0 e ≡ true → (f : ℕ) → in_row self.now.prepared.now.elements pair.1 f ≡ true → agrees (relation_of self.now) (slice_get (rows_within self.now) e) (slice_get (rows_within self.now) f) ≡ true)) }
     {
-        self.rows_taken(p, q) && self.rows_agree(p, q)
+        self.rows_taken(pair) && self.rows_agree(pair)
     }
 }
 
 impl Prepared {
-    // How many rows there are.
+    /// How many rows there are: at least one, and at most `MAX_ROWS`.
     pub fn count(&self) -> usize
         ensures is { result ≡ count_in self.now }
         ensures some { 0 < result }
@@ -152,39 +167,39 @@ impl Prepared {
         self.table.count()
     }
 
-    // Whether the set has the pair.
-    pub fn relates(&self, pairs: &[u64], p: u8, q: u8) -> bool
-        ensures { result ≡ related_in self.now pairs.now p q }
+    /// Whether the set of pairs has the pair: the bit of its place is set. No, if it is no pair of rows.
+    pub fn relates(&self, pairs: &[u64], pair: (u8, u8)) -> bool
+        ensures { result ≡ related_in self.now pairs.now pair.0 pair.1 }
     {
-        self.place((p, q)).is_some_and(|k| sets::test(pairs, k))
+        self.place(pair).is_some_and(|k| sets::test(pairs, k))
     }
 
-    // Whether row q offers a channel row that row c, if it is a channel row, is below within the set of pairs.
-    pub fn takes_channel(&self, pairs: &[u64], c: u8, q: u8) -> bool
-        ensures { Decides result (ChannelTaken (rows_in self.now) (related_in self.now pairs.now) c q) }
+    /// Whether the first row of a pair, if it is a channel row, is below a channel row that the second offers, within the set of pairs. Yes, if it is no channel row.
+    pub fn takes_channel(&self, pairs: &[u64], pair: (u8, u8)) -> bool
+        ensures { Decides result (ChannelTaken (rows_in self.now) (related_in self.now pairs.now) pair.0 pair.1) }
     {
         let within = Within {
             prepared: self,
             pairs,
         };
-        within.takes_channel(c, q)
+        within.takes_channel(pair)
     }
 
-    // Whether row q offers a void row if row p does.
-    fn voids_kept(&self, p: u8, q: u8) -> bool
-        ensures { Decides result (OffersVoid (rows_in self.now) p → OffersVoid (rows_in self.now) q) }
+    // Whether the second row of a pair offers a void row if the first does.
+    fn voids_kept(&self, pair: (u8, u8)) -> bool
+        ensures { Decides result (OffersVoid (rows_in self.now) pair.0 → OffersVoid (rows_in self.now) pair.1) }
     {
-        !self.gives_void(p) || self.gives_void(q)
+        !self.gives_void(pair.0) || self.gives_void(pair.1)
     }
 
-    // The same, and whether it gives all labels that row p gives.
-    fn offers_kept(&self, p: u8, q: u8) -> bool
-        ensures { Decides result ((OffersVoid (rows_in self.now) p → OffersVoid (rows_in self.now) q) × ((x : ℕ) → LabelledBy (rows_in self.now) p x → LabelledBy (rows_in self.now) q x)) }
+    // Whether it does, and has each label of the inhabited element rows that the first offers.
+    fn offers_kept(&self, pair: (u8, u8)) -> bool
+        ensures { Decides result ((OffersVoid (rows_in self.now) pair.0 → OffersVoid (rows_in self.now) pair.1) × ((x : ℕ) → LabelledBy (rows_in self.now) pair.0 x → LabelledBy (rows_in self.now) pair.1 x)) }
     {
-        self.voids_kept(p, q) && covers(self.labels(q), self.labels(p))
+        self.voids_kept(pair) && covers(self.labels(pair.1), self.labels(pair.0))
     }
 
-    // Whether the pair keeps the rules within the set of pairs. A number outside the table offers nothing.
+    /// Whether the pair keeps the rules within the set of pairs. A number outside the table offers nothing, so that as first row it keeps them.
     pub fn keeps(&self, pair: (u8, u8), pairs: &[u64]) -> bool
         ensures { Decides result (Keeps (rows_in self.now) (related_in self.now pairs.now) pair.0 pair.1) }
     {
@@ -192,6 +207,6 @@ impl Prepared {
             prepared: self,
             pairs,
         };
-        self.offers_kept(pair.0, pair.1) && within.parts_kept(pair.0, pair.1)
+        self.offers_kept(pair) && within.parts_kept(pair)
     }
 }

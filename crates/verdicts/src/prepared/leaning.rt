@@ -1,16 +1,19 @@
 // What a pair of rows leans on: itself, the pairs that the rules name for it, and what those lean on.
-ghost use Rattle.std.specs.Prelude.{◌≡◌, ℕ, ◌*◌, ◌<◌, ◌≤◌, true, false, ◌⊎◌, Some, Decides, MatchOption};
+ghost use Rattle.std.specs.Prelude.{◌≡◌, ℕ, ◌*◌, ◌<◌, ◌≤◌, true, false, ◌⊎◌, Some, Decides, MatchOption, MatchResult, IfOk};
 ghost use Rattle.std.specs.List.{slice_get};
 ghost use Rattle.sets.specs.Sets.{member};
 ghost use Rattle.forms.specs.Limits.{max_rows};
 ghost use Rattle.schema.specs.Rules.{Below, Included, Leans};
+ghost use Rattle.schema.specs.Published.{Subschema};
 ghost use Rattle.schema.specs.Theorems.{Confined};
 ghost use Rattle.verdicts.specs.Naming.{NamedAt, NamedAmong, NamedWith};
-ghost use Rattle.verdicts.specs.Pairs.{place_of, Leaned};
+ghost use Rattle.verdicts.specs.Pairs.{place_of, Leaned, InTable};
 ghost use Rattle.verdicts.specs.Ready.{in_row};
 ghost use Rattle.verdicts.specs.Tables.{rows_in, count_in, related_in};
 ghost use Rattle.verdicts.specs.Walking.{Notes, MetBy, Takes, IsAtRest};
+ghost use Rattle.verdicts.specs.declared.faults.RowFault.TheVariants.{Outside};
 
+use super::super::faults::RowFault;
 use super::super::rowsets::RowSet;
 use super::Prepared;
 use super::deciding::PAIR_WORDS;
@@ -117,7 +120,7 @@ impl Prepared {
         Some(pair)
     }
 
-    // The pairs that the pairs of a set lean on.
+    /// The pairs that the pairs of a set lean on.
     pub fn leaned_from(&self, starts: [u64; PAIR_WORDS]) -> [u64; PAIR_WORDS]
         ensures leans { (a b : ℕ) → Decides (related_in self.now result a b) (Leaned (rows_in self.now) starts a b) }
         ensures confined { Confined (rows_in self.now) (related_in self.now result) }
@@ -147,7 +150,7 @@ impl Prepared {
         pairs
     }
 
-    // The pairs that a pair of rows leans on; none, if it is no pair of rows.
+    /// The pairs that a pair of rows leans on: itself, those that the rules name for it, and what those lean on. None, if it is no pair of rows.
     pub fn leaned(&self, pair: (u8, u8)) -> [u64; PAIR_WORDS]
         ensures leans { pair.0 < count_in self.now → pair.1 < count_in self.now → (a b : ℕ) → Decides (related_in self.now result a b) (Leans (rows_in self.now) pair.0 pair.1 a b) }
         ensures confined { Confined (rows_in self.now) (related_in self.now result) }
@@ -157,14 +160,16 @@ impl Prepared {
         self.leaned_from(self.alone(pair))
     }
 
-    // Whether the first row of a pair is below the second, decided on the pairs that it leans on alone. No, if it is no pair of rows.
-    pub fn below(&self, pair: (u8, u8)) -> bool
-        ensures below { pair.0 < count_in self.now → pair.1 < count_in self.now → Decides result (Below (rows_in self.now) pair.0 pair.1) }
-        ensures included { pair.0 < count_in self.now → pair.1 < count_in self.now → Decides result (Included (rows_in self.now) pair.0 pair.1) }
-        ensures outside { (count_in self.now ≤ pair.0) ⊎ (count_in self.now ≤ pair.1) → result ≡ false }
+    /// Whether the first row of a pair is below the second, told from the pairs that it leans on alone: whether every document that fits the first fits the second. Refused as 21, if it is no pair of rows.
+    pub fn below(&self, pair: (u8, u8)) -> Result<bool, RowFault>
+        ensures rows { MatchResult result (λ _. InTable (rows_in self.now) pair.0 pair.1) (λ e. (e ≡ Outside) × (InTable (rows_in self.now) pair.0 pair.1 → ⊥)) }
+        ensures below { IfOk result (λ yes. Decides yes (Below (rows_in self.now) pair.0 pair.1)) }
+        ensures included { IfOk result (λ yes. Decides yes (Included (rows_in self.now) pair.0 pair.1)) }
+        ensures published { IfOk result (λ yes. Decides yes (Subschema (rows_in self.now) pair.0 pair.1)) }
     {
+        self.in_table(pair)?;
         let mut pairs = self.leaned(pair);
         self.narrow(&mut pairs);
-        self.relates(&pairs, pair.0, pair.1)
+        Ok(self.relates(&pairs, pair))
     }
 }

@@ -17,8 +17,8 @@ fn named_payloads(c: (Capability, u8), d: (Capability, u8)) -> [Option<(u8, u8)>
     }
 }
 
-// The same for a channel and a row.
-pub(crate) fn named_by_channel(c: (Capability, u8), row: Option<Row>) -> [Option<(u8, u8)>; 2]
+// The pairs of payloads that they name for a channel and a row, if that is a channel row too.
+fn named_by_channel(c: (Capability, u8), row: Option<Row>) -> [Option<(u8, u8)>; 2]
     ensures { result ≡ both (names_by_channel c.0 c.1 row) }
 {
     match row {
@@ -28,11 +28,7 @@ pub(crate) fn named_by_channel(c: (Capability, u8), row: Option<Row>) -> [Option
 }
 
 // The pairs of parts that the rules name for an element and a row.
-pub(crate) fn named_by_element(
-    labels: u64,
-    parts: (u8, u8),
-    row: Option<Row>,
-) -> [Option<(u8, u8)>; 2]
+fn named_by_element(labels: u64, parts: (u8, u8), row: Option<Row>) -> [Option<(u8, u8)>; 2]
     ensures { result ≡ both (names_by_element labels parts.0 parts.1 row) }
 {
     match row {

@@ -15,28 +15,28 @@ use super::Prepared;
 use forms::{FormSource, Row};
 
 impl Prepared {
-    // The row with that number, if there is one.
+    /// The row with that number, if there is one.
     pub fn row(&self, number: u8) -> Option<Row>
         ensures { result ≡ slice_get (rows_in self.now) number }
     {
         self.table.row(number)
     }
 
-    // Whether the row with that number is a channel row.
+    /// Whether the row with that number is a channel row.
     pub fn is_channel(&self, number: u8) -> bool
         ensures { Decides result (IsChannel (rows_in self.now) number) }
     {
         is_channel(self.row(number))
     }
 
-    // Whether row p offers a void row.
+    /// Whether row p offers a void row.
     pub fn gives_void(&self, p: u8) -> bool
         ensures { Decides result (OffersVoid (rows_in self.now) p) }
     {
         RowSet::of(&self.voids, p).next().is_some()
     }
 
-    // The channel rows that row p offers.
+    /// The channel rows that row p offers.
     pub fn channels_of(&self, p: u8) -> RowSet<'_>
         ensures set { (c : ℕ) → Decides (row_set result c) (Offers (rows_in self.now) p c × IsChannel (rows_in self.now) c) }
         ensures start { result.start ≡ 0 }
@@ -44,7 +44,7 @@ impl Prepared {
         RowSet::of(&self.channels, p)
     }
 
-    // The inhabited element rows that row p offers.
+    /// The inhabited element rows that row p offers.
     pub fn elements_of(&self, p: u8) -> RowSet<'_>
         ensures set { (e : ℕ) → Decides (row_set result e) (Offers (rows_in self.now) p e × Inhabited (rows_in self.now) e × IsElement (rows_in self.now) e) }
         ensures start { result.start ≡ 0 }
@@ -52,7 +52,7 @@ impl Prepared {
         RowSet::of(&self.elements, p)
     }
 
-    // The labels of the inhabited element rows that row p offers.
+    /// The labels of the inhabited element rows that row p offers, as a label set.
     pub fn labels(&self, p: u8) -> u64
         ensures { (x : ℕ) → Decides (belongs x result) (LabelledBy (rows_in self.now) p x) }
     {

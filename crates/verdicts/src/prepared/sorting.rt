@@ -25,7 +25,6 @@ use sets;
 use std::array;
 
 // The inhabited rows that pass the test.
-// As it is: fitting gathers numbers that pass a test by a loop of its own. One function for both would be public and would ask that the test may be called, and no public function here asks anything.
 fn rows_of_sort<F: Fn(Option<Row>) -> bool>(
     table: &RowBuffer,
     analysis: &Analysis,
@@ -85,7 +84,7 @@ fn labels_in_row(table: &RowBuffer, elements: &[u64], p: u8) -> u64
     labels
 }
 
-// The same for each row.
+// For each row the labels of the rows in its set.
 fn gather_labels(table: &RowBuffer, elements: &[u64]) -> [u64; MAX_ROWS]
     ensures { (p : ℕ) → p < max_rows → Labelling (rows_of table.now) (in_row elements.now p) (slice_index result p) }
 {
@@ -117,7 +116,7 @@ impl Prepared {
         }
     }
 
-    // Prepares the table of a source, or says why it is not admitted. Where a label came twice, a row might not be below itself.
+    /// Prepares the table of a source, or says why it is not admitted, with the refusals 11 to 13. Where a label came twice, a row might not be below itself.
     pub fn of<S: FormSource>(source: &S) -> Result<Prepared, AdmissionFault>
         ensures prepared { MatchResult result (λ t. (rows_in t ≡ S.FormSource.rows source.now) × Admitted (S.FormSource.rows source.now)) (λ e. Finds (S.FormSource.rows source.now) (admission_refusal e)) }
         ensures needed { ReflexiveNeedsDetermined }

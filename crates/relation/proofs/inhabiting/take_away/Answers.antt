@@ -1,6 +1,6 @@
 use Rattle.std.proofs.Common.{sym, subst, ◌∙◌}
 use Rattle.sets.specs.Sets.{member}
-use Rattle.relation.proofs.Inhabitants.{Rest, rest_skip, rest_more, rest_all}
+use Rattle.relation.proofs.Inhabitants.{Rest, rest_more, rest_all}
 use Rattle.relation.proofs.inhabiting.take_away.Goals as goal
 
 pub loop-p-preserved : goal.loop-p-preserved
@@ -13,9 +13,7 @@ loop-p-preserved c =
     record {
       set = λ j. step.same j ∙ same j;
       rest = subst (Rest old set c.remove.new.words) (sym step.behind)
-          (rest_more old set c.loop-p.rest c.remove.new.words c.in-Some.p
-          (rest_skip old set c.loop-p.rest c.loop-p.p-iterator.start c.in-Some.p from (λ j low less. sym (same j) ∙ skip j low less) c.loop-p.invariant.rest)
-          (sym (same c.in-Some.p) ∙ there) c.remove.ensures);
+          (rest_more old set c.loop-p.rest c.remove.new.words c.loop-p.p-iterator.start c.in-Some.p from (sym (same c.in-Some.p) ∙ there) (λ j low less. sym (same j) ∙ skip j low less) c.loop-p.invariant.rest c.remove.ensures);
     }
 
 pub returns : goal.returns

@@ -1,6 +1,7 @@
 use Rattle.std.proofs.Common.{◌*◌, length, ◌∙◌}
 use Rattle.std.proofs.lemmas.Bool.{le-ltb}
 use Rattle.forms.specs.Buffers.{rows_of}
+use Rattle.schema.proofs.Laws.{below_laws}
 use Rattle.schema.proofs.Worked.{worked_cases}
 use Rattle.verdicts.specs.Facts.{bounded_of, determined_of}
 use Rattle.verdicts.proofs.Verdicts.{verdicts_largest, verdicts_below, verdicts_included, verdicts_published, verdicts_witness, verdicts_reflexive, verdicts_transitive}
@@ -25,5 +26,6 @@ returns c =
       reflexive = verdicts_reflexive rows bounded determined all words has is;
       transitive = verdicts_transitive rows bounded determined all words has is;
       rest = λ k h. c.narrow.ensures.rest k h ∙ has k ∙ le-ltb k (length rows * length rows) h;
+      laws = below_laws;
       worked = worked_cases;
     }

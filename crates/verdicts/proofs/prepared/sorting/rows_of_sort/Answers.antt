@@ -1,6 +1,6 @@
 use Rattle.std.proofs.Common.{◌≡◌, ℕ, Bool, ◌+◌, ◌/◌, ◌&&◌, ltb, true, false, length, sym, refl, ap, ◌∙◌, subst, arith}
 use Rattle.std.specs.List.{slice_get}
-use Rattle.std.proofs.lemmas.Bool.{and_from, and_left}
+use Rattle.std.proofs.lemmas.Bool.{and_from, and_left, and_right}
 use Rattle.sets.specs.Sets.{member, word}
 use Rattle.sets.proofs.Picking.{Picked, picked_none, picked_put, picked_past, picked_is}
 use Rattle.forms.specs.Buffers.{rows_of}
@@ -33,15 +33,11 @@ loop-o-preserved g c =
         ap length w.rows-is ∙ long,
         subst (λ cells. Picked Hit Miss cells (o + 1)) (sym w.rows-is) (picked_past Hit Miss c.loop-o.rows o so_far (elim w.else-is_inhabited.branch [
           | else-is_inhabited-via-then-is_inhabited+else-passes v ↦
-              ap (λ b. inhabited o && b) (ap g.test (sym v.row.ensures) ∙ sym (c.requires.1.1 v.row.result v.passes.result v.passes.ensures) ∙ v.if-passes.false) ∙ and_false (inhabited o)
+              and_right (inhabited o) (g.test (slice_get rows o)) (ap g.test (sym v.row.ensures) ∙ sym (c.requires.1.1 v.row.result v.passes.result v.passes.ensures) ∙ v.if-passes.false)
           | else-is_inhabited-via-else-is_inhabited v ↦ and_left (inhabited o) (g.test (slice_get rows o)) (sym c.is_inhabited.ensures ∙ v.if-is_inhabited.false)
         ])),
       )
     ]
-  where
-    and_false : (b : Bool) → (b && false) ≡ false
-    and_false true = refl
-    and_false false = refl
 
 pub returns : goal.returns
 returns g c =

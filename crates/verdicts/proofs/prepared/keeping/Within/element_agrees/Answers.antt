@@ -12,8 +12,8 @@ pub returns-then-has : goal.returns-then-has
 returns-then-has c =
     let t = c.args.self.now.prepared.now in
     let rows = rows_of t.table in
-    let e = c.args.e in
-    let q = c.args.q in
+    let e = c.args.pair.0 in
+    let q = c.args.pair.1 in
     let R : Relation = related (length rows) c.args.self.now.pairs.now in
     subst (λ b. Decides b ((f : ℕ) → in_row t.elements q f ≡ true → agrees R (slice_get rows e) (slice_get rows f) ≡ true))
     (sym (c.agrees.ensures ∙ ap (λ r. agrees R r (slice_get rows e)) c.row-row.ensures))

@@ -13,5 +13,5 @@ pub returns : goal.returns
 returns c =
     let t = c.args.self.now.prepared.now in
     let rows = rows_of t.table in
-    let Yes : ℕ → Type 0 = λ e. (f : ℕ) → in_row t.elements c.args.q f ≡ true → agrees (related (length rows) c.args.self.now.pairs.now) (slice_get rows e) (slice_get rows f) ≡ true in
-    decides_all row_set (λ s. s.start) (in_row t.elements c.args.p) c.of.ensures.start c.of.ensures.set Yes c.all.ensures.ran (λ x q k. search (rules, tests)) (λ x q k. search (rules, tests))
+    let Yes : ℕ → Type 0 = λ e. (f : ℕ) → in_row t.elements c.args.pair.1 f ≡ true → agrees (related (length rows) c.args.self.now.pairs.now) (slice_get rows e) (slice_get rows f) ≡ true in
+    decides_all row_set (λ s. s.start) (in_row t.elements c.args.pair.0) c.of.ensures.start c.of.ensures.set Yes c.all.ensures.ran (λ x q k. search (rules, tests)) (λ x q k. search (rules, tests))

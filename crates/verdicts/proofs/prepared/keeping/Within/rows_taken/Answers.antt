@@ -12,5 +12,5 @@ pub returns : goal.returns
 returns c =
     let t = c.args.self.now.prepared.now in
     let rows = rows_of t.table in
-    let Yes : ℕ → Type 0 = λ d. ChannelTaken rows (related (length rows) c.args.self.now.pairs.now) d c.args.q in
-    decides_all row_set (λ s. s.start) (in_row t.channels c.args.p) c.of.ensures.start c.of.ensures.set Yes c.all.ensures.ran (λ x q k. search (rules, tests)) (λ x q k. search (rules, tests))
+    let Yes : ℕ → Type 0 = λ d. ChannelTaken rows (related (length rows) c.args.self.now.pairs.now) d c.args.pair.1 in
+    decides_all row_set (λ s. s.start) (in_row t.channels c.args.pair.0) c.of.ensures.start c.of.ensures.set Yes c.all.ensures.ran (λ x q k. search (rules, tests)) (λ x q k. search (rules, tests))

@@ -14,4 +14,4 @@ returns c =
     let t = c.args.self.now.prepared.now in
     let rows = rows_of t.table in
     let Yes : ℕ → Type 0 = λ d. takes (related (length rows) c.args.self.now.pairs.now) c.args.c.0 c.args.c.1 (slice_get rows d) ≡ true in
-    decides_any row_set (λ s. s.start) (in_row t.channels c.args.q) c.of.ensures.start c.of.ensures.set Yes c.any.ensures.ran (λ x q k. search (rules, tests)) (λ x q k. search (rules, tests))
+    decides_any row_set (λ s. s.start) (in_row t.channels c.args.pair.1) c.of.ensures.start c.of.ensures.set Yes c.any.ensures.ran (λ x q k. search (rules, tests)) (λ x q k. search (rules, tests))

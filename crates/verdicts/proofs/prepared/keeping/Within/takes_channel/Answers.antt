@@ -8,4 +8,4 @@ pub returns-in-Some-Channel : goal.returns-in-Some-Channel
 returns-in-Some-Channel c =
     let t = c.args.self.now.prepared.now in
     let arm = c.in-Some-Channel in
-    taken_tells t (related (length (rows_of t.table)) c.args.self.now.pairs.now) c.args.c c.args.q arm.payload arm.capability c.taken.result (sym c.row.ensures ∙ arm.is ∙ ap Some arm.field-0-is) c.taken.ensures
+    taken_tells t (related (length (rows_of t.table)) c.args.self.now.pairs.now) c.args.pair.0 c.args.pair.1 arm.payload arm.capability c.taken.result (sym c.row.ensures ∙ arm.is ∙ ap Some arm.field-0-is) c.taken.ensures
