@@ -1,5 +1,5 @@
 -- What a document fits, by the node that stands for it, and by what the marks tell of lower nodes. Assumes nothing.
-use Rattle.std.proofs.Common.{◌≡◌, ℕ, ◌+◌, ◌<◌, ◌≤◌, Bool, true, cond, ◌&&◌, eqb, List, length, get_or, Some, Decides, sym, ap, ◌∙◌, subst, ⊎_elim, arith}
+use Rattle.std.proofs.Common.{◌≡◌, ℕ, ◌+◌, ◌<◌, ◌≤◌, Bool, cond, ◌&&◌, eqb, List, length, get_or, Some, Decides, sym, refl, ap, ◌∙◌, subst, ⊎_elim, arith}
 use Rattle.std.specs.List.{slice_get}
 use Rattle.std.proofs.lemmas.Option.{slice_get-get_or}
 use Rattle.std.proofs.lemmas.Bool.{and_parts, and_from, cases_eq, eq-eqb, ne_eqb}
@@ -11,12 +11,11 @@ use Rattle.forms.specs.Rows.{belongs}
 use Rattle.forms.specs.Schema.{Offers, Inhabited, IsChannel}
 use Rattle.forms.specs.Schema.Inhabited.{of_void as inhabited_void, of_channel as inhabited_channel, of_element as inhabited_element}
 use Rattle.forms.specs.declared.Row.{Row}
-use Rattle.forms.specs.declared.Row.TheVariants.{Element as element_row}
 use Rattle.documents.specs.Nodes.{SoundWith, SoundOver, StandsFor}
 use Rattle.documents.specs.Nodes.StandsFor.{for_void, for_reference, for_element}
 use Rattle.documents.specs.declared.nodes.Node.{Node}
 use Rattle.documents.specs.declared.nodes.Node.TheVariants.{Void, Reference, Element}
-use Rattle.documents.proofs.Shapes.{of_void, of_reference, of_element}
+use Rattle.documents.proofs.Tables.{stands_one}
 use Rattle.relation.specs.Cells.{cell}
 use Rattle.schema.specs.Rules.{OffersVoid, Below, Fits}
 use Rattle.schema.specs.Fitting.{FitsBy}
@@ -26,7 +25,7 @@ use Rattle.schema.proofs.Fitting.{fits_of_by, by_of_fits}
 use Rattle.schema.proofs.Offered.{offering_below}
 use Rattle.verdicts.specs.Ready.{in_row}
 use Rattle.verdicts.proofs.Walks.{in_row_low, in_row_below}
-use Rattle.fitting.specs.Marks.{Referred, FitsNode, MarkedTo, Marked, TellsRoot, holds}
+use Rattle.fitting.specs.Marks.{Referred, FitsNode, MarkedAt, Marked, TellsRoot, holds}
 
 -- why a document fits
 module _ (rows : List Row) (B : ℕ → ℕ → Type 0) where
@@ -47,88 +46,83 @@ module _ (rows : List Row) (B : ℕ → ℕ → Type 0) where
   reference_by : {c r : ℕ} → FitsBy rows B (reference c) r → (d : ℕ) × Offers rows r d × IsChannel rows d × B c d
   reference_by (fits_reference {d} {s} {k} offers e b) = (d, offers, (k, s, e), b)
 
-  record Parts (x : ℕ) (a b : Document) (r : ℕ) : Type 0 where
-    pub number : ℕ
-    pub labels : ℕ
-    pub inside : ℕ
-    pub following : ℕ
-    pub offered : Offers rows r number
-    pub is : slice_get rows number ≡ Some (element_row labels inside following)
-    pub has : belongs x labels ≡ true
-    pub fits_inside : FitsBy rows B a inside
-    pub fits_following : FitsBy rows B b following
-
-  element_by : {x r : ℕ} {a b : Document} → FitsBy rows B (element x a b) r → Parts x a b r
-  element_by (fits_element {e} {l} {i} {n} offers is m fa fb) = record { number = e; labels = l; inside = i; following = n; offered = offers; is = is; has = m; fits_inside = fa; fits_following = fb }
-
-module _ (rows : List Row) (few : length rows ≤ max_rows) (B : ℕ → ℕ → Type 0) (nodes : List Node) (marks : List ℕ) (i : ℕ) (marked : MarkedTo rows B nodes marks i) where
-  -- a lower node's mark
-  mark_fits : (j : ℕ) → j < i → {d : Document} → StandsFor nodes j d → (r : ℕ) → in_row marks j r ≡ true → FitsBy rows B d r
-  mark_fits j h {d} st r m = let (low, there) = in_row_below marks j r m in ((marked j h d st r low).0 there).1
-
-  fits_mark : (j : ℕ) → j < i → {d : Document} → StandsFor nodes j d → (r : ℕ) → FitsBy rows B d r → in_row marks j r ≡ true
-  fits_mark j h {d} st r f =
-      let less = fits_below rows B f in
-      let low : r < max_rows = omega arith in
-      in_row_low marks j r low ∙ (marked j h d st r low).1 (less, f)
-
-  abbrev Means : Node → Document → Type 0
-  Means m d = (r : ℕ) → (FitsNode rows B (in_row marks) m r → FitsBy rows B d r) × (FitsBy rows B d r → FitsNode rows B (in_row marks) m r)
-
-  element_means : (x p q : ℕ) → p < i → q < i → (a b : Document) → StandsFor nodes p a → StandsFor nodes q b → Means (Element x p q) (element x a b)
-  element_means x p q p< q< a b sa sb r = (
-    λ (e, offers, _, (l, j, n, is), h).
-        let (m, both) = and_parts (belongs x l) (in_row marks p j && in_row marks q n) (sym (ap (holds (in_row marks) x p q) is) ∙ h) in
-        let (inside, following) = and_parts (in_row marks p j) (in_row marks q n) both in
-        fits_element offers is m (mark_fits p p< sa j inside) (mark_fits q q< sb n following),
-    λ f.
-        let t = element_by rows B f in (
-          t.number,
-          t.offered,
-          inhabited_element x t.is t.has (fits_inhabited rows B a t.fits_inside) (fits_inhabited rows B b t.fits_following),
-          (t.labels, t.inside, t.following, t.is),
-          ap (holds (in_row marks) x p q) t.is
-              ∙ and_from (belongs x t.labels) (in_row marks p t.inside && in_row marks q t.following) t.has
-              (and_from (in_row marks p t.inside) (in_row marks q t.following) (fits_mark p p< sa t.inside t.fits_inside) (fits_mark q q< sb t.following t.fits_following)),
-        ),
+module _ (rows : List Row) (few : length rows ≤ max_rows) (B : ℕ → ℕ → Type 0) (nodes : List Node) (marks : List ℕ) where
+  -- a node's mark of a row tells whether its document fits
+  mark_tells : (j : ℕ) (m : MarkedAt rows B nodes marks j) (r : ℕ) → Decides (in_row marks j r) (FitsBy rows B m.document r)
+  mark_tells j m r = (
+    λ on. let (low, there) = in_row_below marks j r on in ((m.told r low).0 there).1,
+    λ f. let less = fits_below rows B f in let low : r < max_rows = omega arith in in_row_low marks j r low ∙ (m.told r low).1 (less, f),
   )
 
-  node_means : (m : Node) → slice_get nodes i ≡ Some m → SoundWith (IsChannel rows) i m → (d : Document) → StandsFor nodes i d → Means m d
-  node_means Void e s d st = subst (Means Void) (sym (of_void e st)) (λ r. (fits_void, void_by rows B))
-  node_means (Reference c) e s d st = subst (Means (Reference c)) (sym (of_reference e st)) (λ r. (λ (o, offers, (k, t, is), b). fits_reference offers is b, reference_by rows B))
-  node_means (Element x p q) e (_, p<, q<) d st = let (a, b, is, sa, sb) = of_element e st in subst (Means (Element x p q)) (sym is) (element_means x p q p< q< a b sa sb)
+  -- so the mark of the root does
+  pub root_tells : (root row : ℕ) (b : Bool) → root < length nodes → Marked rows B nodes marks → b ≡ in_row marks root row → TellsRoot rows B nodes root row b
+  root_tells root row b inside marked is =
+      let m = marked root inside in
+      record { document = m.document; stands = m.stands; only = m.only; told = subst (λ x. Decides x (FitsBy rows B m.document row)) (sym is) (mark_tells root m row) }
 
-  -- one node more
-  pub marked_more : SoundOver rows nodes → i < length nodes → (set new : List ℕ) → ((r : ℕ) → Decides (member set r) (FitsNode rows B (in_row marks) (get_or nodes i Void) r))
-      → ((q o : ℕ) → o < max_rows → cell new q o ≡ cond (eqb q i) (member set o) (cell marks q o)) → MarkedTo rows B nodes new (i + 1)
-  marked_more sound lt set new tells wrote j h d st r low = ⊎_elim
-      (λ is.
-      let here : StandsFor nodes i d = subst (λ k. StandsFor nodes k d) is st in
-      let at = slice_get-get_or nodes i Void lt in
-      let (there, back) = node_means (get_or nodes i Void) at (sound.each i at) d here r in
-      let now : cell new j r ≡ member set r = wrote j r low ∙ ap (λ b. cond b (member set r) (cell marks j r)) (eq-eqb j i is) in (
-        λ m. let f = there ((tells r).0 (sym now ∙ m)) in (fits_below rows B f, f),
-        λ (_, f). now ∙ (tells r).1 (back f),
-      ))
-      (λ other.
-      let now : cell new j r ≡ cell marks j r = wrote j r low ∙ ap (λ b. cond b (member set r) (cell marks j r)) (ne_eqb j i other) in
-      let (there, back) = marked j (omega arith) d st r low in
-      (λ m. there (sym now ∙ m), λ f. now ∙ back f))
-      (cases_eq j i)
+  module _ (i : ℕ) (marked : (j : ℕ) → j < i → MarkedAt rows B nodes marks j) where
+    abbrev Means : Node → Document → Type 0
+    Means m d = (r : ℕ) → (FitsNode rows B (in_row marks) m r → FitsBy rows B d r) × (FitsBy rows B d r → FitsNode rows B (in_row marks) m r)
 
--- the mark of the root tells whether its document fits
-pub root_tells : (rows : List Row) → length rows ≤ max_rows → (B : ℕ → ℕ → Type 0) (nodes : List Node) (marks : List ℕ) (root row : ℕ) (b : Bool) → root < length nodes → Marked rows B nodes marks → b ≡ in_row marks root row → TellsRoot rows B nodes root row b
-root_tells rows few B nodes marks root row b inside marked is d st = (
-  λ e. let (low, there) = in_row_below marks root row (sym is ∙ e) in (marked root inside d st row low).0 there,
-  λ (less, f). let low : row < max_rows = omega arith in is ∙ in_row_low marks root row low ∙ (marked root inside d st row low).1 (less, f),
-)
+    element_means : (x p q : ℕ) (a : MarkedAt rows B nodes marks p) (b : MarkedAt rows B nodes marks q) → Means (Element x p q) (element x a.document b.document)
+    element_means x p q a b r = (there, back)
+      where
+        there : FitsNode rows B (in_row marks) (Element x p q) r → FitsBy rows B (element x a.document b.document) r
+        there (e, offers, _, (l, j, n, is), h) =
+            let (m, both) = and_parts (belongs x l) (in_row marks p j && in_row marks q n) (sym (ap (holds (in_row marks) x p q) is) ∙ h) in
+            let (inside, following) = and_parts (in_row marks p j) (in_row marks q n) both in
+            fits_element offers is m ((mark_tells p a j).0 inside) ((mark_tells q b n).0 following)
+
+        back : {r : ℕ} → FitsBy rows B (element x a.document b.document) r → FitsNode rows B (in_row marks) (Element x p q) r
+        back (fits_element {e} {l} {i = j} {n} offers is m fa fb) = (
+          e,
+          offers,
+          inhabited_element x is m (fits_inhabited rows B a.document fa) (fits_inhabited rows B b.document fb),
+          (l, j, n, is),
+          ap (holds (in_row marks) x p q) is ∙ and_from (belongs x l) (in_row marks p j && in_row marks q n) m (and_from (in_row marks p j) (in_row marks q n) ((mark_tells p a j).1 fa) ((mark_tells q b n).1 fb)),
+        )
+
+    -- the document of the node, of those of lower nodes
+    node_means : (m : Node) → slice_get nodes i ≡ Some m → SoundWith (IsChannel rows) i m → (d : Document) × StandsFor nodes i d × Means m d
+    node_means Void e s = (void, for_void e, λ r. (fits_void, void_by rows B))
+    node_means (Reference c) e s = (reference c, for_reference e, λ r. (λ (o, offers, (k, t, is), b). fits_reference offers is b, reference_by rows B))
+    node_means (Element x p q) e (_, p<, q<) = let a = marked p p< in let b = marked q q< in (element x a.document b.document, for_element e a.stands b.stands, element_means x p q a b)
+
+    -- one node more
+    pub marked_more : SoundOver rows nodes → i < length nodes → (set new : List ℕ) → ((r : ℕ) → Decides (member set r) (FitsNode rows B (in_row marks) (get_or nodes i Void) r))
+        → ((q o : ℕ) → o < max_rows → cell new q o ≡ cond (eqb q i) (member set o) (cell marks q o)) → (j : ℕ) → j < i + 1 → MarkedAt rows B nodes new j
+    marked_more sound lt set new tells wrote j h = ⊎_elim
+        (λ is. subst (MarkedAt rows B nodes new) (sym is) here)
+        (λ other.
+        let m = marked j (omega arith) in
+        record {
+          document = m.document;
+          stands = m.stands;
+          only = m.only;
+          told = λ r low. subst (λ b. Decides b ((r < length rows) × FitsBy rows B m.document r)) (sym (wrote j r low ∙ ap (λ b. cond b (member set r) (cell marks j r)) (ne_eqb j i other))) (m.told r low);
+        })
+        (cases_eq j i)
+      where
+        here : MarkedAt rows B nodes new i
+        here =
+            let at = slice_get-get_or nodes i Void lt in
+            let (d, stands, means) = node_means (get_or nodes i Void) at (sound.each i at) in
+            record {
+              document = d;
+              stands = stands;
+              only = λ e other. stands_one stands other;
+              told = λ r low.
+                  let now : cell new i r ≡ member set r = wrote i r low ∙ ap (λ b. cond b (member set r) (cell marks i r)) (eq-eqb i i refl) in
+                  let (there, back) = means r in
+                  (λ m. let f = there ((tells r).0 (sym now ∙ m)) in (fits_below rows B f, f), λ (_, f). now ∙ (tells r).1 (back f));
+            }
 
 -- a document fits by a relation what it fits by another, if the one is within the other at the rows that the nodes refer to
 module _ (rows : List Row) (nodes : List Node) (B C : ℕ → ℕ → Type 0) (within : (c d : ℕ) → Referred nodes c → IsChannel rows d → B c d → C c d) where
   pub fits_within : {i : ℕ} {d : Document} → StandsFor nodes i d → {r : ℕ} → FitsBy rows B d r → FitsBy rows C d r
-  fits_within (for_void e) f = fits_void (void_by rows B f)
-  fits_within {i} (for_reference {c} e) f = let (d, offers, (k, s, is), b) = reference_by rows B f in fits_reference offers is (within c d (i, e) (k, s, is) b)
-  fits_within (for_element e sa sb) f = let t = element_by rows B f in fits_element t.offered t.is t.has (fits_within sa t.fits_inside) (fits_within sb t.fits_following)
+  fits_within (for_void e) (fits_void v) = fits_void v
+  fits_within {i} (for_reference {c} e) (fits_reference {d} {s} {k} offers is b) = fits_reference offers is (within c d (i, e) (k, s, is) b)
+  fits_within (for_element e sa sb) (fits_element offers is m fa fb) = fits_element offers is m (fits_within sa fa) (fits_within sb fb)
 
 -- so a document fits by pairs that tell what is below, at the rows that the nodes refer to, exactly where it fits
 pub fits_by_below : (rows : List Row) (nodes : List Node) (B : ℕ → ℕ → Type 0)

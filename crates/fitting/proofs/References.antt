@@ -2,7 +2,7 @@
 use Rattle.std.proofs.Common.{◌≡◌, ℕ, ◌+◌, ◌*◌, ◌/◌, ◌%◌, ◌<◌, ◌≤◌, true, false, ◌||◌, eqb, ◌≢◌, ◌⊎◌, List, length, get_or, replicate, Some, Decides, sym, ap, ◌∙◌, subst, inl, inr, ⊎_elim, arith}
 use Rattle.std.specs.List.{slice_get}
 use Rattle.std.proofs.lemmas.Nat.{mul-add-lt}
-use Rattle.std.proofs.lemmas.Option.{slice_get-get_or}
+use Rattle.std.proofs.lemmas.Option.{slice_get-get_or, get_or_from_slice_get}
 use Rattle.std.proofs.lemmas.Bool.{both_ways, cases_Bool, cases_eq, cases_lt, eq-eqb, eqb-true, or_cases, or_left, or_right}
 use Rattle.sets.specs.Sets.{member, word, top}
 use Rattle.forms.specs.Limits.{max_rows}
@@ -23,10 +23,8 @@ Refers old new node = (a : ℕ) → a < max_rows → Decides (member new a) ((me
 
 pub refers_row : (old new : List ℕ) (node : Node) (row : ℕ) → word * length old ≡ max_rows → node ≡ Reference row
     → (row < word * length old → row < top → (j : ℕ) → member new j ≡ (eqb j row || member old j)) → ((word * length old ≤ row) ⊎ (top ≤ row) → new ≡ old) → Refers old new node
-refers_row old new node row room is within past a low = ⊎_elim
-    (λ h. ⊎_elim (λ small. inside (within h small a)) (λ high. outside (past (inr high)) (λ e. omega arith)) (cases_lt row top))
-    (λ h. outside (past (inl h)) (λ e. omega arith))
-    (cases_lt row (word * length old))
+refers_row old new node row room is within past a low =
+    ⊎_elim (λ h. inside (within (omega arith) (omega arith) a)) (λ h. outside (past (inl (omega arith))) (λ e. omega arith)) (cases_lt row max_rows)
   where
     same : node ≡ Reference a → a ≡ row
     same e = cc
@@ -61,14 +59,11 @@ module _ (nodes : List Node) where
           (λ here. (i, omega arith, slice_get-get_or nodes i Void lt ∙ ap Some here))
           (there m),
       λ (j, less, e). back (⊎_elim
-          (λ is. inr (own a j is e))
+          (λ is. inr (get_or_from_slice_get nodes i (Reference a) Void (subst (λ x. slice_get nodes x ≡ Some (Reference a)) is e)))
           (λ other. inl ((g.has a low).1 (j, omega arith, e)))
           (cases_eq j i)),
     );
   }
-    where
-      own : (a j : ℕ) → j ≡ i → slice_get nodes j ≡ Some (Reference a) → get_or nodes i Void ≡ Reference a
-      own a j is e = let f = slice_get-get_or nodes i Void lt in let g : slice_get nodes i ≡ Some (Reference a) = subst (λ x. slice_get nodes x ≡ Some (Reference a)) is e in cc
 
   pub gone_all : (rows : List ℕ) (i : ℕ) → length nodes ≤ i → Gone rows i → (a : ℕ) → a < max_rows → Decides (member rows a) (Referred nodes a)
   gone_all rows i all g a low = (λ m. let (j, _, e) = (g.has a low).0 m in (j, e), λ (j, e). (g.has a low).1 (j, omega (arith, nth_below nodes j e), e))

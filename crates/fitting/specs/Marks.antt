@@ -24,17 +24,24 @@ Referred nodes c = (i : ℕ) × (slice_get nodes i ≡ Some (Reference c))
 abbrev pub Among : ℕ → List ℕ → ℕ → ℕ → Type 0
 Among n words c d = related n words c d ≡ true
 
--- The marks of the first n nodes are the rows that their documents fit.
-abbrev pub MarkedTo : List Row → (ℕ → ℕ → Type 0) → List Node → List ℕ → ℕ → Type 0
-MarkedTo rows B nodes marks n = (i : ℕ) → i < n → (d : Document) → StandsFor nodes i d → (r : ℕ) → r < max_rows → Decides (cell marks i r) ((r < length rows) × FitsBy rows B d r)
+-- Node i stands for a document, for one and exactly one, and P holds of that.
+pub record ItsDocument (nodes : List Node) (i : ℕ) (P : Document → Type 0) : Type 0 where
+  pub document : Document
+  pub stands : StandsFor nodes i document
+  pub only : (e : Document) → StandsFor nodes i e → e ≡ document
+  pub told : P document
 
--- The marks of all nodes are.
+-- The marks of node i are the rows that its document fits.
+abbrev pub MarkedAt : List Row → (ℕ → ℕ → Type 0) → List Node → List ℕ → ℕ → Type 0
+MarkedAt rows B nodes marks i = ItsDocument nodes i (λ d. (r : ℕ) → r < max_rows → Decides (cell marks i r) ((r < length rows) × FitsBy rows B d r))
+
+-- The marks of each node are.
 abbrev pub Marked : List Row → (ℕ → ℕ → Type 0) → List Node → List ℕ → Type 0
-Marked rows B nodes marks = MarkedTo rows B nodes marks (length nodes)
+Marked rows B nodes marks = (i : ℕ) → i < length nodes → MarkedAt rows B nodes marks i
 
--- it tells whether the document of the root fits the row
+-- b tells whether the document of the root fits the row.
 abbrev pub TellsRoot : List Row → (ℕ → ℕ → Type 0) → List Node → ℕ → ℕ → Bool → Type 0
-TellsRoot rows B nodes root row b = (d : Document) → StandsFor nodes root d → Decides b ((row < length rows) × FitsBy rows B d row)
+TellsRoot rows B nodes root row b = ItsDocument nodes root (λ d. Decides b (FitsBy rows B d row))
 
 -- an element row has the label, its inside is marked for node a, and its following for node b
 abbrev pub holds : (ℕ → ℕ → Bool) → ℕ → ℕ → ℕ → Option Row → Bool

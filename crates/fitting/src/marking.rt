@@ -5,6 +5,7 @@ ghost use Rattle.forms.specs.Limits.{max_rows};
 ghost use Rattle.documents.specs.Limits.{max_nodes};
 ghost use Rattle.documents.specs.Nodes.{SoundOver};
 ghost use Rattle.relation.specs.Cells.{cell};
+ghost use Rattle.schema.specs.Fitting.{FitsIsByBelow};
 ghost use Rattle.verdicts.specs.Ready.{in_row};
 ghost use Rattle.fitting.specs.Faults.{fit_refusal};
 ghost use Rattle.fitting.specs.Fittable.{row_words, Fittable, Unfit};
@@ -60,7 +61,11 @@ impl<'a> Fitting<'a> {
     }
 }
 
-// Marks for each node the rows that it fits, where a reference fits by the given pairs, and tells whether the root fits the row.
+/// Marks for each node the rows that its document fits, where a reference fits by the given pairs of rows (a relation of n rows:
+/// the pair of a and b is bit a × n + b), and tells whether the root fits the row.
+///
+/// It fills the caller's slice in place, `ROW_WORDS` words a node, and nothing else: bit r of the words of node i is set exactly if
+/// node i fits row r. A refusal, which is 21, 30, 31, 32 or 33, the first that holds (`Unfit`), leaves the slice unchanged.
 pub fn mark(
     prepared: &Prepared,
     pairs: &[u64],
@@ -68,12 +73,13 @@ pub fn mark(
     row: u8,
     marks: &mut [u64],
 ) -> Result<bool, FitFault>
-    ensures checked { MatchResult result (λ _. Fittable (rows_in prepared.now) order.now.nodes.now order.now.root (length marks.old)) (λ e. Unfit (rows_in prepared.now) order.now.nodes.now order.now.root (length marks.old) (fit_refusal e)) }
+    ensures checked { MatchResult result (λ _. Fittable (rows_in prepared.now) order.now.nodes.now order.now.root row (length marks.old)) (λ e. Unfit (rows_in prepared.now) order.now.nodes.now order.now.root row (length marks.old) (fit_refusal e)) }
     ensures marked { MatchResult result (λ _. Marked (rows_in prepared.now) (Among (count_in prepared.now) pairs.now) order.now.nodes.now marks.new) (λ _. marks.new ≡ marks.old) }
     ensures told { IfOk result (TellsRoot (rows_in prepared.now) (Among (count_in prepared.now) pairs.now) order.now.nodes.now order.now.root row) }
+    ensures by_below { FitsIsByBelow }
     ensures length { length marks.new ≡ length marks.old }
 {
-    check(prepared, order, marks.len())?;
+    check(prepared, order, row, marks.len())?;
     let fitting = Fitting { prepared, pairs };
     fitting.mark_nodes(order.nodes, marks);
     Ok(has(marks, order.root as u16, row))

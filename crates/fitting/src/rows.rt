@@ -16,7 +16,7 @@ use sets;
 use verdicts::prepared::Prepared;
 
 // The numbers below n that pass the test, as a set.
-// As it is: verdicts gathers rows that pass a test by a loop of its own. One function for both would be public and would ask that the test may be called, and no public function here asks anything.
+// It is private, since it asks that the test may be called, and no public function asks anything of its caller.
 pub(crate) fn numbers_where<const W: usize, F: Fn(usize) -> bool>(n: usize, passes: F) -> [u64; W]
     requires callable { (k : ℕ) → k < n → F.pre passes k }
     requires room { (n ≤ word * W) × (n ≤ top) }
@@ -78,7 +78,7 @@ impl<'a> Fitting<'a> {
     {
         numbers_where(
             self.prepared.count(),
-            |d| self.prepared.relates(self.pairs, c, d as u8),
+            |d| self.prepared.relates(self.pairs, (c, d as u8)),
         )
     }
 

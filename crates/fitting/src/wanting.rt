@@ -36,7 +36,8 @@ fn referred(nodes: &[Node]) -> [u64; ROW_WORDS]
 
 // Whether the first row of the pair with that place is among the rows, and the second is a channel row.
 fn wants(prepared: &Prepared, rows: &[u64], place: usize) -> bool
-    ensures { place < count_in prepared.now * count_in prepared.now → Decides result ((member rows.now (place / count_in prepared.now) ≡ true) × IsChannel (rows_in prepared.now) (place % count_in prepared.now)) }
+    ensures within { place < count_in prepared.now * count_in prepared.now → Decides result ((member rows.now (place / count_in prepared.now) ≡ true) × IsChannel (rows_in prepared.now) (place % count_in prepared.now)) }
+    ensures outside { count_in prepared.now * count_in prepared.now ≤ place → result ≡ false }
 {
     match prepared.pair_at(place) {
         Some((a, b)) => sets::test(rows, a as usize) && prepared.is_channel(b),
@@ -44,7 +45,8 @@ fn wants(prepared: &Prepared, rows: &[u64], place: usize) -> bool
     }
 }
 
-// The pairs of a row that a node refers to and a channel row.
+/// The pairs of a row that a node refers to and a channel row, as a relation of the table's rows: they decide where the order's
+/// references fit.
 pub fn wanted(prepared: &Prepared, nodes: &[Node]) -> [u64; PAIR_WORDS]
     ensures wanted { (a b : ℕ) → Decides (related_in prepared.now result a b) ((a < count_in prepared.now) × Referred nodes.now a × IsChannel (rows_in prepared.now) b) }
     ensures rest { (k : ℕ) → count_in prepared.now * count_in prepared.now ≤ k → member result k ≡ false }

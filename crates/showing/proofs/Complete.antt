@@ -11,10 +11,11 @@ use Rattle.schema.specs.Rules.{Bounded, OffersElement, Relation, Keeps}
 use Rattle.schema.specs.Rules.Names.{inside, following}
 use Rattle.schema.specs.Theorems.{Part}
 use Rattle.schema.proofs.Inclusion.{element_parts}
-use Rattle.schema.proofs.Offered.{inhabited_below}
+use Rattle.relation.proofs.Offered.{inhabited_below}
 use Rattle.schema.proofs.Order.{keeps_more, payloads_more}
 use Rattle.showing.specs.Drafts.{is_noted, noted, pair_place, Unlit, Untold}
-use Rattle.showing.specs.Drawing.{Asked, places, Noted, Settled}
+use Rattle.showing.specs.Drawing.{Asked, Noted, Settled}
+use Rattle.showing.specs.Showing.{places}
 use Rattle.showing.proofs.Noting.{is_noted_none, noted_not, noted_or_not}
 
 -- the places are those of the rows and of the pairs
@@ -51,7 +52,7 @@ module _ (rows : List Row) (bounded : Bounded rows) (leaned below : Relation) (a
   offering_lit (of_right e h) r' low more = offering_lit h r' low (λ o u. more o (right e u))
 
   all_lit : {r : ℕ} → Inhabited rows r → Has r
-  all_lit {r} h = offering_lit h r (inhabited_below rows bounded h) (λ o u. u)
+  all_lit {r} h = offering_lit h r (inhabited_below rows h) (λ o u. u)
 
   -- the pairs that have no node
   open_pairs : Relation

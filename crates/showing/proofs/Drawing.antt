@@ -13,8 +13,8 @@ use Rattle.documents.specs.Nodes.{StandsFor}
 use Rattle.documents.specs.declared.nodes.Node.{Node}
 use Rattle.schema.specs.Rules.{Bounded, Determined, Relation}
 use Rattle.showing.specs.Drafts.{is_noted, noted, pair_place, Drafts}
-use Rattle.showing.specs.Showing.{Witnesses}
-use Rattle.showing.specs.Drawing.{Asked, places, Suits, Noted, Holds, Grown, Settled, Visited, Rounded, Waits}
+use Rattle.showing.specs.Showing.{Witnesses, places}
+use Rattle.showing.specs.Drawing.{Asked, Suits, Noted, Holds, Grown, Settled, Visited, Rounded}
 use Rattle.showing.proofs.Complete.{none_left}
 use Rattle.showing.proofs.Noting.{nothing_noted, noted_here, noted_there, noted_more, noted_fewer}
 use Rattle.showing.proofs.Suiting.{drafted_suits}
@@ -124,10 +124,7 @@ module _ (rows : List Row) (below : Relation) where
       }
 
       pub visited_by : (after : List Node) (more : ℕ) (new : List (Option ℕ)) → after ≡ set nodes used v → more ≡ used + 1 → new ≡ set numbers k (Some used) → Visited rows leaned below k nodes after used more numbers new true
-      visited_by after more new e f g =
-          subst (λ x. Visited rows leaned below k nodes x used more numbers new true) (sym e)
-          (subst (λ x. Visited rows leaned below k nodes (set nodes used v) used x numbers new true) (sym f)
-          (subst (λ x. Visited rows leaned below k nodes (set nodes used v) used (used + 1) numbers x true) (sym g) visited_added))
+      visited_by after more new e f g = rw (e, f, g) visited_added
 
 module _ (rows : List Row) (leaned below : Relation) (but : ℕ) where
   module _ (before after : List Node) (used more : ℕ) (numbers new : List (Option ℕ)) (k : ℕ) (rounded : Rounded rows leaned below but k before after used more numbers new) where
@@ -181,13 +178,15 @@ shows rows below p q but used more nodes numbers at p< q< holds plus e =
     }
 
 -- ROUND AFTER ROUND
+-- nodes are made, and the asked pair has none yet
+pub record Waits (rows : List Row) (below : Relation) (asked : ℕ) (before nodes : List Node) (used : ℕ) (numbers : List (Option ℕ)) : Type 0 where
+  pub holds : Holds rows below nodes used numbers
+  pub grown : Grown before nodes 0 used
+  pub none : noted numbers asked ≡ None
+
 pub waits_none : (rows : List Row) (below : Relation) (asked : ℕ) (nodes : List Node) (used : ℕ) (numbers : List (Option ℕ)) (N : ℕ) → N ≡ max_nodes → used ≡ 0 → numbers ≡ replicate N None → places rows ≤ length nodes → Waits rows below asked nodes nodes used numbers
 waits_none rows below asked nodes used numbers N long zero start room =
-    subst (λ u. Waits rows below asked nodes nodes u numbers) (sym zero) (subst (Waits rows below asked nodes nodes 0) (sym start) (record {
-      holds = holds_none rows below nodes N long room;
-      grown = grown_none nodes 0;
-      none = nothing_noted N asked;
-    }))
+    rw (zero, start) (record { holds = holds_none rows below nodes N long room; grown = grown_none nodes 0; none = nothing_noted N asked })
 
 module _ (rows : List Row) (leaned below : Relation) (but : ℕ) (before nodes nodes' : List Node) (used used' : ℕ) (numbers numbers' : List (Option ℕ)) (r : Bool)
     (waits : Waits rows below but before nodes used numbers) (visited : Visited rows leaned below but nodes nodes' used used' numbers numbers' r) where

@@ -7,5 +7,4 @@ pub mod Suiting
 pub mod Complete
 pub mod Drawing
 pub mod Questions
-pub mod Lacking
 pub mod Lowest

@@ -35,16 +35,7 @@ element_node (Some x) None f = None
 element_node (Some x) (Some i) None = None
 element_node (Some x) (Some i) (Some f) = Some (node.Element x i f)
 
--- of an element row, one that fits it
-abbrev pub lighting_row : List (Option ℕ) → Option Row → Option Node
-lighting_row numbers None = None
-lighting_row numbers (Some row.Void) = None
-lighting_row numbers (Some row.Nothing) = None
-lighting_row numbers (Some (row.Channel k s)) = None
-lighting_row numbers (Some (row.Element l i m)) = element_node (lowest l) (noted numbers i) (noted numbers m)
-lighting_row numbers (Some (row.Union l r)) = None
-
--- the same, with a label that is none of the others
+-- of an element row, one that fits it with a label that is none of the others
 abbrev pub lacking_row : List (Option ℕ) → ℕ → Option Row → Option Node
 lacking_row numbers others None = None
 lacking_row numbers others (Some row.Void) = None

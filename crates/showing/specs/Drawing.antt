@@ -1,5 +1,5 @@
 -- What holds while nodes are made, and what one step and one round of it do. Assumes nothing.
-use Rattle.std.specs.Prelude.{◌≡◌, ℕ, ◌+◌, ◌*◌, ◌<◌, ◌≤◌, Bool, true, false, ◌≢◌, List, length, take, drop, Some, None, Option}
+use Rattle.std.specs.Prelude.{◌≡◌, ℕ, ◌+◌, ◌<◌, ◌≤◌, Bool, true, false, ◌≢◌, List, length, take, drop, Some, None, Option}
 use Rattle.sets.specs.Sets.{tally}
 use Rattle.forms.specs.declared.Row.{Row}
 use Rattle.forms.specs.Documents.{Document}
@@ -9,16 +9,13 @@ use Rattle.documents.specs.declared.nodes.Node.{Node}
 use Rattle.schema.specs.Rules.{Relation, Fits}
 use Rattle.schema.specs.Theorems.{LargestWithin, Confined, OfRows}
 use Rattle.showing.specs.Drafts.{is_noted, noted, pair_place, Undrafted}
+use Rattle.showing.specs.Showing.{places}
 
 -- the pairs that the asked one leans on, and those of them that are below
 pub record Asked (rows : List Row) (leaned below : Relation) : Type 0 where
   pub of_rows : OfRows rows leaned
   pub confined : Confined rows leaned
   pub largest : LargestWithin rows leaned below
-
--- how many places there are: one a row and one a pair
-abbrev pub places : List Row → ℕ
-places rows = length rows * (length rows + 1)
 
 -- the document is one for the place: it fits the row, or the first row of the pair and not the second
 pub record Suits (rows : List Row) (below : Relation) (k : ℕ) (d : Document) : Type 0 where
@@ -62,9 +59,3 @@ pub record Rounded (rows : List Row) (leaned below : Relation) (but end : ℕ) (
   pub grown : Grown before after used more
   pub stays : noted new but ≡ noted numbers but
   pub idle : more ≡ used → (new ≡ numbers) × ((j : ℕ) → j < end → j ≢ but → Settled rows leaned below new j)
-
--- nodes are made, and the asked pair has none yet
-pub record Waits (rows : List Row) (below : Relation) (asked : ℕ) (before nodes : List Node) (used : ℕ) (numbers : List (Option ℕ)) : Type 0 where
-  pub holds : Holds rows below nodes used numbers
-  pub grown : Grown before nodes 0 used
-  pub none : noted numbers asked ≡ None

@@ -1,3 +1,4 @@
+pub mod Faults
 pub mod Showing
 pub mod Drafts
 pub mod Drawing

@@ -15,8 +15,7 @@ pub(crate) struct Question<'a> {
 }
 
 // So many nodes are used. A row and a pair of rows that have a node have its number: row r at place r, and the pair of a and b at n + a n + b.
-// As it is: one number is the place of a row or of a pair, since a round goes through all of them in one count, and that the drawing ends is shown by how many of one array have a node.
-// As it is: the nodes stand beside it, since a struct that held them as a `&mut` would have each contract say too that it stays the same one.
+// The nodes themselves are the caller's slice, which is handed on beside it.
 #[derive(Drop)]
 pub(crate) struct Drawn {
     used: usize,

@@ -1,18 +1,20 @@
 // An order that fits one row of a prepared table and not another.
 #![tactic(auto)]
 
-ghost use Rattle.std.specs.Prelude.{◌≡◌, ◌+◌, ◌*◌, ◌<◌, ◌≤◌, Decides};
+ghost use Rattle.std.specs.Prelude.{◌≡◌, ◌+◌, ◌*◌};
 ghost use Rattle.showing.specs.Showing.{Shown};
 ghost use Rattle.verdicts.specs.Tables.{rows_in, count_in};
 
 use documents::nodes::Node;
 use drawn::Question;
 use drawn::steps::draw;
+use faults::ShowFault;
 use verdicts::prepared::Prepared;
 
 mod drawn;
+pub mod faults;
 
-// How many nodes an order that is shown of a table has at most: one a row and one a pair of rows.
+/// How many nodes an order that is shown of a table has at most: one a row and one a pair of rows, n × (n + 1) for n rows.
 pub fn most_nodes(prepared: &Prepared) -> usize
     ensures { result ≡ count_in prepared.now * (count_in prepared.now + 1) }
 {
@@ -20,31 +22,28 @@ pub fn most_nodes(prepared: &Prepared) -> usize
     n * (n + 1)
 }
 
-// Whether it is a pair of rows, and the room is enough for as many nodes as there can be.
-fn askable(prepared: &Prepared, pair: (u8, u8), room: usize) -> bool
-    ensures { Decides result ((pair.0 < count_in prepared.now) × (pair.1 < count_in prepared.now) × (count_in prepared.now * (count_in prepared.now + 1) ≤ room)) }
-{
-    prepared.place(pair).is_some() && most_nodes(prepared) <= room
-}
-
-// Writes an order that fits the first row of a pair and not the second, as a table of nodes whose last is its root, and answers how many nodes it has.
-// None, and no change, if there is none such, or where there is no room for one node a row and one node a pair of rows.
-pub fn show(prepared: &Prepared, pair: (u8, u8), nodes: &mut [Node]) -> Option<usize>
+/// Writes an order that fits the first row of a pair and not the second (`Witnesses`), and answers how many nodes it has.
+///
+/// It fills the caller's slice in place, and the rest is unchanged. Callers and later readers rely on this form: the first nodes,
+/// as many as are answered, are a sound table whose last is its root, and no memory is taken for them. A refusal, which is 21, 25
+/// or 26, the first that holds, leaves all nodes.
+pub fn show(prepared: &Prepared, pair: (u8, u8), nodes: &mut [Node]) -> Result<usize, ShowFault>
     ensures { Shown (rows_in prepared.now) pair.0 pair.1 nodes.old nodes.new result }
 {
-    if !askable(prepared, pair, nodes.len()) {
-        return None;
-    }
+    prepared.in_table(pair)?;
     let leaned = prepared.leaned(pair);
     let mut below = leaned;
     prepared.narrow(&mut below);
-    if prepared.relates(&below, pair.0, pair.1) {
-        return None;
+    if prepared.relates(&below, pair) {
+        return Err(ShowFault::NotNo);
+    }
+    if nodes.len() < most_nodes(prepared) {
+        return Err(ShowFault::FewNodes);
     }
     let question = Question {
         prepared,
         leaned: &leaned,
         below: &below,
     };
-    Some(draw(&question, pair, nodes))
+    Ok(draw(&question, pair, nodes))
 }

@@ -1,11 +1,11 @@
-// The nodes that can be made of those that are there.
+// The nodes that can be made of those that are there. A pair of rows is a tuple, as everywhere: the first row is the one that an order is to fit, the second the one that it is not to.
 ghost use Rattle.std.specs.Prelude.{◌≡◌, ℕ, ◌*◌, ◌<◌, true, false, length, Decides, MatchOption, ◌≢◌};
 ghost use Rattle.std.specs.List.{slice_get};
 ghost use Rattle.sets.specs.Sets.{member};
 ghost use Rattle.schema.specs.Rules.{OffersVoid};
 ghost use Rattle.verdicts.specs.Reading.{ChannelTaken};
 ghost use Rattle.showing.specs.Questions.{rows_asked, leaned_in, below_in};
-ghost use Rattle.showing.specs.Drafts.{noted, pair_place, lowest, element_node, lighting_row, lacking_row, difference_from, difference_of_rows, Through, ElementOf, ChannelOf, DiffersIn, ToldBy, Lights, Unlit, Tells, Untold, Drafts, Undrafted};
+ghost use Rattle.showing.specs.Drafts.{noted, pair_place, lowest, element_node, lacking_row, difference_from, difference_of_rows, Through, ElementOf, ChannelOf, DiffersIn, ToldBy, Lights, Unlit, Tells, Untold, Drafts, Undrafted};
 ghost use Rattle.verdicts.specs.Tables.{rows_in, count_in};
 
 use super::{Drawn, Question};
@@ -32,17 +32,17 @@ fn element(label: Option<u8>, inside: Option<u16>, following: Option<u16>) -> Op
     })
 }
 
-// Whether row p offers a void row and row q does not.
-fn lacks_void(prepared: &Prepared, p: u8, q: u8) -> bool
-    ensures lacks { result ≡ true → OffersVoid (rows_in prepared.now) p × (OffersVoid (rows_in prepared.now) q → ⊥) }
-    ensures keeps { result ≡ false → OffersVoid (rows_in prepared.now) p → OffersVoid (rows_in prepared.now) q }
+// Whether the first row of a pair offers a void row and the second does not.
+fn lacks_void(prepared: &Prepared, pair: (u8, u8)) -> bool
+    ensures lacks { result ≡ true → OffersVoid (rows_in prepared.now) pair.0 × (OffersVoid (rows_in prepared.now) pair.1 → ⊥) }
+    ensures keeps { result ≡ false → OffersVoid (rows_in prepared.now) pair.0 → OffersVoid (rows_in prepared.now) pair.1 }
 {
-    prepared.gives_void(p) && !prepared.gives_void(q)
+    prepared.gives_void(pair.0) && !prepared.gives_void(pair.1)
 }
 
-// A channel row that row p offers and row q does not take within the set of pairs.
-fn untaken(question: &Question, p: u8, q: u8) -> Option<u8>
-    ensures { MatchOption result ((c : ℕ) → ChannelOf (rows_asked question.now) p c → ChannelTaken (rows_asked question.now) (below_in question.now) c q) (λ c. ChannelOf (rows_asked question.now) p c × (ChannelTaken (rows_asked question.now) (below_in question.now) c q → ⊥)) }
+// A channel row that the first row of a pair offers and the second does not take within the set of pairs.
+fn untaken(question: &Question, pair: (u8, u8)) -> Option<u8>
+    ensures { MatchOption result ((c : ℕ) → ChannelOf (rows_asked question.now) pair.0 c → ChannelTaken (rows_asked question.now) (below_in question.now) c pair.1) (λ c. ChannelOf (rows_asked question.now) pair.0 c × (ChannelTaken (rows_asked question.now) (below_in question.now) c pair.1 → ⊥)) }
 {
     let Question {
         prepared,
@@ -50,13 +50,12 @@ fn untaken(question: &Question, p: u8, q: u8) -> Option<u8>
         ..
     } = *question;
     prepared
-        .channels_of(p)
-        .find(|c| !prepared.takes_channel(below, *c, q))
+        .channels_of(pair.0)
+        .find(|c| !prepared.takes_channel(below, (*c, pair.1)))
 }
 
-// The place of a pair of rows, behind those of the rows.
-// As it is: a number, where `Prepared::place` gives an `Option`, since rows name rows, and no caller has another pair.
-pub(crate) fn place_of(prepared: &Prepared, pair: (u8, u8)) -> usize
+// The place of a pair of rows, behind those of the rows. What is no pair of rows has none, and is not asked for here.
+pub(crate) fn pair_place(prepared: &Prepared, pair: (u8, u8)) -> usize
     ensures { result ≡ pair_place (count_in prepared.now) pair.0 pair.1 }
 {
     let n = prepared.count();
@@ -71,8 +70,6 @@ fn open(question: &Question, k: usize) -> bool
     k < n * n && sets::test(question.leaned, k) && !sets::test(question.below, k)
 }
 
-// As it is: the prepared table is handed on beside what is drawn, since a struct of the two would be made anew for each
-// draft, and each contract would name both of its parts.
 impl Drawn {
     // The node at a place, if there is one.
     pub(crate) fn node(&self, place: usize) -> Option<u16>
@@ -85,7 +82,7 @@ impl Drawn {
     fn pair_node(&self, prepared: &Prepared, pair: (u8, u8)) -> Option<u16>
         ensures { result ≡ noted self.now.numbers (pair_place (count_in prepared.now) pair.0 pair.1) }
     {
-        self.node(place_of(prepared, pair))
+        self.node(pair_place(prepared, pair))
     }
 
     // A node for an element row, with a label that is none of the others.
@@ -108,7 +105,7 @@ impl Drawn {
         }
     }
 
-    // A node that fits an element and not a row with a common label.
+    // A node that fits an element, of which the labels and the two parts are given, and not a row with a common label.
     fn differ_from(
         &self,
         prepared: &Prepared,
@@ -142,7 +139,7 @@ impl Drawn {
         }
     }
 
-    // The same of two rows.
+    // A node that fits the one of two element rows with a common label and not the other.
     fn differ_rows(&self, prepared: &Prepared, row: Option<Row>, other: Option<Row>) -> Option<Node>
         ensures { result ≡ difference_of_rows (count_in prepared.now) self.now.numbers row other }
     {
@@ -160,7 +157,7 @@ impl Drawn {
 
     // A node for one of the inhabited element rows that row r offers.
     fn lit_element(&self, prepared: &Prepared, r: u8) -> Option<Node>
-        ensures { Through (ElementOf (rows_in prepared.now) r) (λ e v. v ≡ lighting_row self.now.numbers (slice_get (rows_in prepared.now) e)) result }
+        ensures { Through (ElementOf (rows_in prepared.now) r) (λ e v. v ≡ lacking_row self.now.numbers 0 (slice_get (rows_in prepared.now) e)) result }
     {
         prepared
             .elements_of(r)
@@ -189,7 +186,7 @@ impl Drawn {
             .find_map(|f| self.differ_rows(prepared, row, prepared.row(f)))
     }
 
-    // The same, or one with a label that none of those rows has.
+    // A node that fits an element row and none of the inhabited element rows that row q offers: one with a label that none of them has, or with a part that does not fit the one that has the label too.
     fn tell_row(&self, prepared: &Prepared, row: Option<Row>, q: u8) -> Option<Node>
         ensures { ToldBy (rows_in prepared.now) self.now.numbers q row result }
     {
@@ -197,26 +194,26 @@ impl Drawn {
             .or_else(|| self.differ_in(prepared, row, q))
     }
 
-    // The same for one of the inhabited element rows that row p offers.
-    fn tell_element(&self, prepared: &Prepared, p: u8, q: u8) -> Option<Node>
-        ensures { Through (ElementOf (rows_in prepared.now) p) (λ e v. ToldBy (rows_in prepared.now) self.now.numbers q (slice_get (rows_in prepared.now) e) v) result }
+    // An element that fits the first row of a pair and not the second.
+    fn tell_element(&self, prepared: &Prepared, pair: (u8, u8)) -> Option<Node>
+        ensures { Through (ElementOf (rows_in prepared.now) pair.0) (λ e v. ToldBy (rows_in prepared.now) self.now.numbers pair.1 (slice_get (rows_in prepared.now) e) v) result }
     {
         prepared
-            .elements_of(p)
-            .find_map(|e| self.tell_row(prepared, prepared.row(e), q))
+            .elements_of(pair.0)
+            .find_map(|e| self.tell_row(prepared, prepared.row(e), pair.1))
     }
 
-    // A node that fits row p and not row q.
-    fn tell(&self, question: &Question, p: u8, q: u8) -> Option<Node>
-        ensures { MatchOption result (Untold (rows_asked question.now) (below_in question.now) self.now.numbers p q) (λ v. Tells (rows_asked question.now) (below_in question.now) self.now.numbers p q v) }
+    // A node that fits the first row of a pair and not the second.
+    fn tell(&self, question: &Question, pair: (u8, u8)) -> Option<Node>
+        ensures { MatchOption result (Untold (rows_asked question.now) (below_in question.now) self.now.numbers pair.0 pair.1) (λ v. Tells (rows_asked question.now) (below_in question.now) self.now.numbers pair.0 pair.1 v) }
     {
-        if lacks_void(question.prepared, p, q) {
+        if lacks_void(question.prepared, pair) {
             return Some(Node::Void);
         }
-        if let Some(c) = untaken(question, p, q) {
+        if let Some(c) = untaken(question, pair) {
             return Some(Node::Reference(c));
         }
-        self.tell_element(question.prepared, p, q)
+        self.tell_element(question.prepared, pair)
     }
 
     // A node for the row or the pair of rows at a place.
@@ -231,7 +228,7 @@ impl Drawn {
         if !open(question, k) {
             return None;
         }
-        let (p, q) = question.prepared.pair_at(k)?;
-        self.tell(question, p, q)
+        let pair = question.prepared.pair_at(k)?;
+        self.tell(question, pair)
     }
 }

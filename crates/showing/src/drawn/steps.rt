@@ -1,12 +1,12 @@
 // Making nodes one after another, until the asked pair has one.
 ghost use Rattle.std.specs.Prelude.{◌≡◌, ◌+◌, ◌<◌, ◌≤◌, true, length, take, drop, replicate, ◌≢◌, slice_set, Some, None};
 ghost use Rattle.documents.specs.Limits.{max_nodes};
-ghost use Rattle.showing.specs.Drawing.{places, Holds, Visited, Rounded};
+ghost use Rattle.showing.specs.Drawing.{Holds, Visited, Rounded};
 ghost use Rattle.showing.specs.Questions.{rows_asked, leaned_in, below_in};
-ghost use Rattle.showing.specs.Showing.{Witnesses};
+ghost use Rattle.showing.specs.Showing.{Witnesses, places};
 
 use super::super::most_nodes;
-use super::drafts::place_of;
+use super::drafts::pair_place;
 use super::{Drawn, Question};
 use documents::nodes::{MAX_NODES, Node};
 
@@ -52,7 +52,7 @@ impl Drawn {
         true
     }
 
-    // The same for all places but one.
+    // Visits all places but one.
     fn round(&mut self, question: &Question, nodes: &mut [Node], but: usize)
         requires holds { Holds (rows_asked question.now) (below_in question.now) nodes.old self.old.used self.old.numbers }
         ensures { Rounded (rows_asked question.now) (leaned_in question.now) (below_in question.now) but (places (rows_asked question.now)) nodes.old nodes.new self.old.used self.new.used self.old.numbers self.new.numbers }
@@ -75,7 +75,7 @@ pub(crate) fn draw(question: &Question, pair: (u8, u8), nodes: &mut [Node]) -> u
     ensures rest { drop result nodes.new ≡ drop result nodes.old }
     ensures same { length nodes.new ≡ length nodes.old }
 {
-    let asked = place_of(question.prepared, pair);
+    let asked = pair_place(question.prepared, pair);
     let mut drawn = Drawn::none();
     while !drawn.visit(question, nodes, asked) {
         drawn.round(question, nodes, asked);

@@ -1,8 +1,7 @@
-use Rattle.std.proofs.Common.{rules, ◌≡◌, Some, None, ◌∙◌}
+use Rattle.std.proofs.Common.{rules, ◌≡◌}
 use Rattle.std.specs.List.{slice_get}
 use Rattle.forms.specs.Buffers.{rows_of}
-use Rattle.showing.specs.Drafts.{ElementOf, lighting_row, lacking_row}
-use Rattle.showing.proofs.Lacking.{lacking_none}
+use Rattle.showing.specs.Drafts.{ElementOf, lacking_row}
 use Rattle.showing.proofs.Walks.{through}
 use Rattle.showing.proofs.drawn.Drawn.lit_element.Goals as goal
 use borrow.Author.Tests.{tests}
@@ -10,8 +9,5 @@ use borrow.Author.Tests.{tests}
 pub returns : goal.returns
 returns c =
     let rows = rows_of c.args.prepared.now.table in
-    let numbers = c.args.self.now.numbers in
-    through (ElementOf rows c.args.r) c.elements_of.ensures.set c.elements_of.ensures.start (λ e v. v ≡ lighting_row numbers (slice_get rows e)) c.find_map.ensures.ran c.find_map.ensures.runs
-    (search (rules, tests))
-    (λ x v q k. let is : Some v ≡ lacking_row numbers 0 (slice_get rows x) = search (rules, tests) in is ∙ lacking_none numbers (slice_get rows x))
-    (λ x q k. (search (rules, tests), let is : None ≡ lacking_row numbers 0 (slice_get rows x) = search (rules, tests) in is ∙ lacking_none numbers (slice_get rows x)))
+    through (ElementOf rows c.args.r) c.elements_of.ensures.set c.elements_of.ensures.start (λ e v. v ≡ lacking_row c.args.self.now.numbers 0 (slice_get rows e)) c.find_map.ensures.ran c.find_map.ensures.runs
+    (search (rules, tests)) (λ x v q k. search (rules, tests)) (λ x q k. search (rules, tests))

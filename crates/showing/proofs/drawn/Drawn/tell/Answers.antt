@@ -16,7 +16,7 @@ pub returns : goal.returns
 returns c =
     let t = c.args.question.now.prepared.now in
     let rows = rows_of t.table in
-    tells_or_not rows (bounded_of t) c.args.self.now.numbers (related (length rows) c.args.question.now.below.now) c.args.p c.args.q c.tell_element.result
+    tells_or_not rows (bounded_of t) c.args.self.now.numbers (related (length rows) c.args.question.now.below.now) c.args.pair.0 c.args.pair.1 c.tell_element.result
     (c.lacks_void.ensures.keeps c.if-lacks_void.false)
     c.in_default.ensures
     c.tell_element.ensures

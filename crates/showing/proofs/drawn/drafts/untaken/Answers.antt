@@ -10,5 +10,5 @@ use borrow.Author.Tests.{tests}
 pub returns : goal.returns
 returns c =
     let rows = rows_of c.args.question.now.prepared.now.table in
-    let Taken : ℕ → Type 0 = λ o. ChannelTaken rows (related (length rows) c.args.question.now.below.now) o c.args.q in
-    through_item (ChannelOf rows c.args.p) c.channels_of.ensures.set c.channels_of.ensures.start (λ o. Taken o → ⊥) Taken c.find.ensures.ran (λ x q k. search (rules, tests)) (λ x q k. search (rules, tests))
+    let Taken : ℕ → Type 0 = λ o. ChannelTaken rows (related (length rows) c.args.question.now.below.now) o c.args.pair.1 in
+    through_item (ChannelOf rows c.args.pair.0) c.channels_of.ensures.set c.channels_of.ensures.start (λ o. Taken o → ⊥) Taken c.find.ensures.ran (λ x q k. search (rules, tests)) (λ x q k. search (rules, tests))

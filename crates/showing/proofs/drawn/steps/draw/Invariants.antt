@@ -1,7 +1,8 @@
 use Rattle.std.proofs.Common.{◌-◌, length}
 use Rattle.forms.specs.Buffers.{rows_of}
 use Rattle.verdicts.specs.Pairs.{related}
-use Rattle.showing.specs.Drawing.{places, Waits}
+use Rattle.showing.specs.Showing.{places}
+use Rattle.showing.proofs.Drawing.{Waits}
 use Rattle.showing.proofs.drawn.steps.draw.Given as goal
 
 abbrev pub invariant-loop-drawn : goal.invariant-loop-drawn
