@@ -40,8 +40,7 @@ counts_plus n k j P Q apart c d = record {
     one : (x y : Bool) → (x ≡ true → y ≡ true → ⊥) → cond (x || y) 1 0 ≡ cond x 1 0 + cond y 1 0
     one true true h = absurd (h refl refl)
     one true false h = refl
-    one false true h = refl
-    one false false h = refl
+    one false y h = omega arith
 
     both : (m : ℕ) → tally_pairs n (λ a b. c.R a b || d.R a b) m ≡ tally_pairs n c.R m + tally_pairs n d.R m
     both zero = refl

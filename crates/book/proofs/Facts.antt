@@ -1,10 +1,11 @@
 -- What an open book keeps can be had from its ghost field, since all of it can be decided. Assumes nothing.
-use Rattle.std.proofs.Common.{◌≡◌, ℕ, Bool, true, false, ◌⊎◌, List, length, inl, inr, ⊎_elim}
-use Rattle.std.proofs.lemmas.Bool.{both_ways, cases_Bool, cases_eq}
+use Rattle.std.proofs.Common.{arith, ◌≡◌, ℕ, Bool, true, false, ◌⊎◌, List, length, inl, inr, ⊎_elim}
+use Rattle.std.proofs.lemmas.Bool.{cases_Bool, cases_eq}
 use Rattle.sets.specs.Sets.{member}
 use Rattle.schema.specs.Rules.{Bounded, Determined, Below, Keeps}
 use Rattle.forms.specs.declared.Row.{Row}
 use Rattle.schema.specs.Rules.{Relation}
+use Rattle.forms.proofs.Findings.{decided}
 use Rattle.schema.proofs.Findings.{holds_or_not}
 use Rattle.schema.proofs.Kept.{not_both, keeps_or_fails}
 use Rattle.schema.proofs.Order.{below_decides}
@@ -16,16 +17,14 @@ use Rattle.book.specs.Ledgers.{ledger_rows}
 use Rattle.book.specs.declared.ledger.Ledger.{Ledger}
 
 false_or_not : (b : Bool) → (b ≡ false) ⊎ (b ≡ false → ⊥)
-false_or_not b = ⊎_elim (λ on. inr (λ off. both_ways b off on)) inl (cases_Bool b)
+false_or_not b = grind (arith, cases_Bool b)
 
 keeps_or_not : (rows : List Row) → Bounded rows → (R : Relation) (a b : ℕ) → Keeps rows R a b ⊎ (Keeps rows R a b → ⊥)
 keeps_or_not rows bounded R a b = ⊎_elim (λ fails. inr (λ keeps. not_both keeps fails)) inl (keeps_or_fails rows bounded R a b)
 
 pub below_or_not : (rows : List Row) → Bounded rows → (words : List ℕ) (a b : ℕ) → related (length rows) words a b ≡ true → Below rows a b ⊎ (Below rows a b → ⊥)
 below_or_not rows bounded words a b h =
-    let (a<, b<, _) = between_parts (length rows) (member words) a b h in
-    let d = below_decides rows bounded a b a< b< in
-    ⊎_elim (λ e. inl (d.0 e)) (λ ne. inr (λ below. both_ways _ ne (d.1 below))) (cases_Bool _)
+    let (a<, b<, _) = between_parts (length rows) (member words) a b h in decided _ (below_decides rows bounded a b a< b<)
 
 module _ (l : Ledger) where
   abbrev rows : List Row
@@ -41,10 +40,7 @@ module _ (l : Ledger) where
   All = Kept rows l.held l.yes l.settled
 
   set_of : (words : List ℕ) → (All → PairSet (length rows) words) → PairSet (length rows) words
-  set_of words get = record {
-    room = known (⊎_elim inl inr (cases_eq _ _)) l.kept (λ k. (get k).room);
-    clear = λ k h. known (false_or_not (member words k)) l.kept (λ all. (get all).clear k h);
-  }
+  set_of words get = record { room = known (cases_eq _ _) l.kept (λ k. (get k).room); clear = λ k h. known (false_or_not (member words k)) l.kept (λ all. (get all).clear k h) }
 
   pub kept_of : Kept (ledger_rows l) l.held l.yes l.settled
   kept_of = record {

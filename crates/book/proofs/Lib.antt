@@ -1,13 +1,10 @@
 pub mod Facts
 pub mod Counting
-pub mod Joins
 pub mod Settling
 pub mod Asking
 pub mod Telling
 pub mod Offering
 pub mod Fitting
-pub mod Taking
 pub mod Meeting
-pub mod Same
 pub mod Worked
 pub mod Runs

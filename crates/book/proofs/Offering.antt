@@ -1,6 +1,6 @@
 -- Opening, clearing, and taking in a relation. Assumes nothing.
 use Rattle.forms.proofs.Findings.{never}
-use Rattle.std.proofs.Common.{◌≡◌, ℕ, ◌+◌, ◌*◌, ◌/◌, ◌%◌, ◌<◌, true, false, not, ◌&&◌, List, length, Option, Some, None, MatchOption, replicate, sym, refl, ap, ◌∙◌, subst, subst₂, ⊎_elim, arith}
+use Rattle.std.proofs.Common.{rules, ◌≡◌, ℕ, ◌+◌, ◌*◌, ◌/◌, ◌%◌, ◌<◌, true, false, not, ◌&&◌, List, length, Option, Some, None, MatchOption, replicate, sym, refl, ap, ◌∙◌, subst, subst₂, ⊎_elim, arith}
 use lib.ListN.{length-replicate}
 use Rattle.std.proofs.lemmas.Nat.{mul-add-lt, div-add-mod', div_below, mod_below}
 use Rattle.std.proofs.lemmas.Bool.{both_ways, cases_Bool, cases_order}
@@ -12,16 +12,16 @@ use Rattle.forms.specs.Refusals.Outcome.{refuses, gives}
 use Rattle.forms.specs.declared.Row.{Row}
 use Rattle.sets.proofs.Membership.{zeros_none}
 use Rattle.schema.specs.Rules.{Keeps, Closed}
+use Rattle.schema.specs.Theorems.{Confined}
 use Rattle.verdicts.specs.Facts.{admitted_of}
 use Rattle.verdicts.specs.Pairs.{related, pair_of}
 use Rattle.verdicts.proofs.Deciding.{between_parts, between_from, place_div, place_mod, pair_parts, pair_none}
-use Rattle.book.specs.Answers.{OfferAnswered}
 use Rattle.book.specs.Calls.Answer.{offered, cleared}
 use Rattle.book.specs.Calls.Call.{offer, clear}
 use Rattle.book.specs.Doing.{Done}
 use Rattle.book.specs.Faults.{book_refusal}
 use Rattle.book.specs.Keeping.{PairSet, Kept}
-use Rattle.book.specs.Ledgers.{ledger_rows, Holds}
+use Rattle.book.specs.Ledgers.{ledger_rows}
 use Rattle.book.specs.Relations.{WellShaped, Consistent, Breaks, Stands}
 use Rattle.book.specs.declared.ledger.Ledger.{Ledger}
 use Rattle.book.specs.declared.types.BookFault.TheVariants.{RuleBroken}
@@ -42,33 +42,20 @@ none_set : (n : ℕ) → PairSet n (replicate numbers 0)
 none_set n = record { room = omega (arith, length-replicate {A = ℕ} numbers 0); clear = λ k h. zeros_none numbers k }
 
 pub kept_none : (rows : List Row) → Kept rows (replicate numbers 0) (replicate numbers 0) (replicate numbers 0)
-kept_none rows = record {
-  held_set = none_set n;
-  yes_set = none_set n;
-  settled_set = none_set n;
-  yes_held = λ a b h. h;
-  tells = λ a b h. absurd (off a b h);
-  closed = λ a b h. absurd (off a b h);
-  settled_held = λ a b h. h;
-  confined = λ a b c d h named. absurd (off a b h);
-}
+kept_none rows =
+    let confined : Confined rows (related (length rows) (replicate numbers 0)) = λ a b c d h named. off a b h in
+    search (rules, none_set (length rows), off) depth 9
   where
-    n : ℕ
-    n = length rows
-
-    off : (a b : ℕ) → related (length rows) (replicate numbers 0) a b ≡ true → ⊥
-    off a b h = both_ways _ (none_related (length rows) numbers a b) h
+    off : {P : Type 0} (a b : ℕ) → related (length rows) (replicate numbers 0) a b ≡ true → P
+    off a b h = absurd (both_ways _ (none_related (length rows) numbers a b) h)
 
 pub cleared_done : (l l' : Ledger) → l'.prepared ≡ l.prepared → l'.held ≡ replicate numbers 0 → Done l clear (cleared (gives tt)) l'
 cleared_done l l' same none = record {
   answered = refl;
   held_after = λ a b. (λ h. absurd (both_ways _ (ap (λ w. related (length (ledger_rows l')) w a b) none ∙ none_related (length (ledger_rows l')) numbers a b) h), λ (x, _). absurd x);
   table = same;
-  unchanged = λ e h. never (cc);
+  unchanged = search rules;
 }
-
-same_fault : {p q a b : ℕ} → p ≡ a → q ≡ b → ◌≡◌ {A = Outcome ℕ} (refuses (book_refusal (RuleBroken p q))) (refuses (book_refusal (RuleBroken a b)))
-same_fault e f = cc
 
 -- the lowest pair that breaks the rules is one
 breaks_one : (rows : List Row) (words : List ℕ) (p q a b : ℕ) → Breaks rows words p q → Breaks rows words a b → (p ≡ a) × (q ≡ b)
@@ -76,9 +63,7 @@ breaks_one rows words p q a b x y =
     let n = length rows in
     let (p<, q<, _) = between_parts n (member words) p q x.has in
     let (a<, b<, _) = between_parts n (member words) a b y.has in
-    let same : p * n + q ≡ a * n + b = ⊎_elim (λ e. e)
-    (⊎_elim (λ less. absurd (x.broken (y.lowest p q less x.has))) (λ more. absurd (y.broken (x.lowest a b more y.has))))
-    (cases_order (p * n + q) (a * n + b)) in
+    let same : p * n + q ≡ a * n + b = grind (arith, cases_order (p * n + q) (a * n + b), x.broken, y.broken, x.lowest a b, y.lowest p q, x.has, y.has) in
     (sym (place_div n p q q<) ∙ ap (λ k. k / n) same ∙ place_div n a b b<, sym (place_mod n p q q<) ∙ ap (λ k. k % n) same ∙ place_mod n a b b<)
 
 module _ (l : Ledger) (words : List ℕ) where
@@ -88,35 +73,21 @@ module _ (l : Ledger) (words : List ℕ) where
   abbrev n : ℕ
   n = length rows
 
-  -- an offer that is refused
-  refused : (o : Outcome ℕ) → (Consistent rows words → ⊥) → OfferAnswered rows (Holds l) words o → Done l (offer words) (offered o) l
-  refused o not answered = nothing_done l (offer words) (offered o) tt (λ a b (is, _). not is) (o, refl, answered)
-
   pub refused_rule : (p q : ℕ) → WellShaped (length (ledger_rows l)) words → Breaks (ledger_rows l) words p q → Done l (offer words) (offered (refuses (book_refusal (RuleBroken p q)))) l
-  refused_rule p q shaped breaks = refused _ (λ is. breaks.broken (is.closed p q breaks.has)) (record {
-    taken = λ is. absurd (breaks.broken (is.closed p q breaks.has));
-    only = λ new e. never (cc);
-    other_length = λ other. absurd (other shaped.long);
-    bit_outside = λ _ not. absurd (not shaped);
-    broken = λ _ a b other. let (e, f) = breaks_one rows words p q a b breaks other in same_fault e f;
-  })
+  refused_rule p q shaped breaks = nothing_done l (offer words) _ tt (λ a b (is, _). not is) (_, refl, search (rules, not, one) depth 9)
+    where
+      not : Consistent rows words → ⊥
+      not is = breaks.broken (is.closed p q breaks.has)
+
+      one : (a b : ℕ) → Breaks rows words a b → ◌≡◌ {A = Outcome ℕ} (refuses (book_refusal (RuleBroken p q))) (refuses (book_refusal (RuleBroken a b)))
+      one a b other = let (e, f) = breaks_one rows words p q a b breaks other in cc
 
   pub taken_done : (l' : Ledger) (new : ℕ) → l'.prepared ≡ l.prepared → Consistent (ledger_rows l) words → Joined l.held l'.held words →
       new ≡ tally (λ j. member words j && not (member l.held j)) (word * length l.held) → Done l (offer words) (offered (gives new)) l'
   taken_done l' new same is joined count =
       let g = grew rows (admitted_of l.prepared).some (buffer_laws l.prepared.table).few (λ a b. related n words a b ≡ true) l.held l'.held words (kept_of l).held_set is.shaped.clear joined (λ a b. ((λ h. h), (λ h. h))) new count in
       record {
-        answered = (
-          gives new,
-          refl,
-          record {
-            taken = λ _. (new, refl, newly l l' same (offer words) (λ a b. related n words a b ≡ true) new tt (λ a b h. (is, h)) (λ a b x. x.1) g);
-            only = λ _ _. is;
-            other_length = λ other. absurd (other is.shaped.long);
-            bit_outside = λ _ not. absurd (not is.shaped);
-            broken = λ _ p q breaks. absurd (breaks.broken (is.closed p q breaks.has));
-          },
-        );
+        answered = let fresh = newly l l' same (offer words) (λ a b. related n words a b ≡ true) new tt (λ a b h. (is, h)) (λ a b x. x.1) g in (gives new, refl, search (rules, is.closed) depth 9);
         held_after = held_more l l' same (offer words) (λ a b. related n words a b ≡ true) new tt (λ a b h. (is, h)) (λ a b x. x.1) g;
         table = same;
         unchanged = λ e h. never (cc);

@@ -1,40 +1,37 @@
 -- What an open book answers to a call, from the rows and the pairs that it holds, and which pairs it holds then. Assumes nothing.
-use Rattle.std.specs.Prelude.{◌≡◌, ℕ, ◌+◌, ◌*◌, ◌<◌, ◌≤◌, Bool, true, ◌⊎◌, ◌↔◌, List, length, take, drop, Some, None, Decides, Option, ◌≢◌}
-use Rattle.forms.specs.Documents.{Document}
+use Rattle.std.specs.Prelude.{◌≡◌, ℕ, ◌<◌, ◌≤◌, Bool, true, ◌⊎◌, ◌↔◌, List, length, take, drop, Some, None, Decides, Option, ◌≢◌}
 use Rattle.forms.specs.Limits.{max_rows}
 use Rattle.forms.specs.Refusals.{Refusal, Outcome}
 use Rattle.forms.specs.Refusals.Outcome.{refuses, gives}
 use Rattle.forms.specs.Schema.{IsChannel}
 use Rattle.forms.specs.declared.Row.{Row}
-use Rattle.documents.specs.Nodes.{StandsFor}
 use Rattle.documents.specs.declared.nodes.Node.{Node}
 use Rattle.relation.specs.Cells.{cell}
+use Rattle.schema.specs.Published.{Subschema}
 use Rattle.schema.specs.Worked.{Counts}
-use Rattle.schema.specs.Rules.{Below, Included, Fits, Leans}
-use Rattle.verdicts.specs.Pairs.{related}
+use Rattle.schema.specs.Rules.{Relation, Below, Included, Fits, Leans}
+use Rattle.verdicts.specs.Pairs.{related, InTable}
+use Rattle.verdicts.specs.declared.faults.RowFault.TheVariants.{Outside}
 use Rattle.fitting.specs.Fittable.{Fittable, Unfit}
-use Rattle.fitting.specs.Marks.{Referred}
-use Rattle.showing.specs.Showing.{Witnesses}
+use Rattle.fitting.specs.Marks.{Referred, ItsDocument}
+use Rattle.showing.specs.Showing.{Witnesses, places}
+use Rattle.showing.specs.declared.faults.ShowFault.TheVariants.{NotNo, FewNodes}
 use Rattle.book.specs.Calls.{Call, Answer}
 use Rattle.book.specs.Calls.Call.{ask, offer, look_up, held, hands_out, show, fit, clear}
 use Rattle.book.specs.Calls.Answer.{asked, offered, looked_up, counted, handed_out, shown, fitted, cleared}
 use Rattle.book.specs.Faults.{book_refusal}
 use Rattle.book.specs.Relations.{words_for, WellShaped, Consistent, Breaks}
-use Rattle.book.specs.declared.types.BookFault.TheVariants.{RowOutside, RelationLength, BitOutside, RuleBroken, NotHeldAsNo, FewNodes}
+use Rattle.book.specs.declared.types.BookFault.TheVariants.{NoRow, RelationLength, BitOutside, RuleBroken, NotShown}
 use Rattle.book.specs.declared.types.Verdict.{Verdict}
-use Rattle.book.specs.declared.types.Verdict.TheVariants.{Yes, No}
+use Rattle.book.specs.declared.types.Verdict.TheVariants.{Yes}
 
 -- pairs of rows, some of which are held
 abbrev pub Pairs : Type 1
 Pairs = ℕ → ℕ → Type 0
 
--- p and q are numbers of rows
-abbrev pub InTable : List Row → ℕ → ℕ → Type 0
-InTable rows p q = (p < length rows) × (q < length rows)
-
--- the nodes can be fitted, and the row is one of the table
-abbrev pub FitTaken : List Row → List Node → ℕ → ℕ → ℕ → Type 0
-FitTaken rows nodes root row marks = (row < length rows) × Fittable rows nodes root marks
+-- those that a test tells
+abbrev pub Holding : Relation → Pairs
+Holding R a b = R a b ≡ true
 
 -- The call adds the pair (a, b): an ask adds what its pair leans on, an offer that is taken its relation's pairs, and a fit
 -- what asks about each pair of a referenced row and a channel row would.
@@ -45,7 +42,7 @@ Adds rows (look_up p q) a b = ⊥
 Adds rows held a b = ⊥
 Adds rows (hands_out buffer) a b = ⊥
 Adds rows (show p q buffer) a b = ⊥
-Adds rows (fit nodes root row marks) a b = FitTaken rows nodes root row (length marks) × ((c d : ℕ) × Referred nodes c × IsChannel rows d × Leans rows c d a b)
+Adds rows (fit nodes root row marks) a b = Fittable rows nodes root row (length marks) × ((c d : ℕ) × Referred nodes c × IsChannel rows d × Leans rows c d a b)
 Adds rows clear a b = ⊥
 
 -- every call but a clearing leaves the pairs that are held
@@ -73,17 +70,21 @@ HeldAsYes rows H p q = H p q × Below rows p q
 abbrev pub HeldAsNo : List Row → Pairs → Pairs
 HeldAsNo rows H p q = H p q × (Below rows p q → ⊥)
 
--- An ask about two rows is not refused, and says yes exactly when every document that fits the first fits the second.
-pub record AskAnswered (rows : List Row) (H : Pairs) (p q : ℕ) (o : Outcome (Verdict × ℕ)) : Type 0 where
-  pub outside : (InTable rows p q → ⊥) → o ≡ refuses (book_refusal RowOutside)
-  pub inside : InTable rows p q →
-      (v : Verdict) × (new : ℕ) × (o ≡ gives (v, new)) × ((v ≡ Yes) ↔ Included rows p q) × ((v ≡ Yes) ↔ Below rows p q) × Counts (length rows) (Newly rows H (ask p q)) new
+-- The verdict is yes exactly when every document that fits p fits q, which is when p is below q, and when it is so by the published relation.
+pub record IsVerdict (rows : List Row) (p q : ℕ) (v : Verdict) : Type 0 where
+  pub included : (v ≡ Yes) ↔ Included rows p q
+  pub below : (v ≡ Yes) ↔ Below rows p q
+  pub published : (v ≡ Yes) ↔ Subschema rows p q
 
--- A look_up says the same as an ask if the pair is held, else unsettled.
+-- An ask about two rows is not refused, and gives the verdict and how many pairs are new.
+pub record AskAnswered (rows : List Row) (H : Pairs) (p q : ℕ) (o : Outcome (Verdict × ℕ)) : Type 0 where
+  pub outside : (InTable rows p q → ⊥) → o ≡ refuses (book_refusal (NoRow Outside))
+  pub inside : InTable rows p q → (v : Verdict) × (new : ℕ) × (o ≡ gives (v, new)) × IsVerdict rows p q v × Counts (length rows) (Newly rows H (ask p q)) new
+
+-- A look-up gives the verdict if the pair is held, else that it is unsettled.
 pub record LookUpAnswered (rows : List Row) (H : Pairs) (p q : ℕ) (o : Outcome (Option Verdict)) : Type 0 where
-  pub outside : (InTable rows p q → ⊥) → o ≡ refuses (book_refusal RowOutside)
-  pub as_yes : InTable rows p q → HeldAsYes rows H p q → o ≡ gives (Some Yes)
-  pub as_no : InTable rows p q → HeldAsNo rows H p q → o ≡ gives (Some No)
+  pub outside : (InTable rows p q → ⊥) → o ≡ refuses (book_refusal (NoRow Outside))
+  pub settled : InTable rows p q → H p q → (v : Verdict) × (o ≡ gives (Some v)) × IsVerdict rows p q v
   pub unsettled : InTable rows p q → (H p q → ⊥) → o ≡ gives None
 
 -- An offer is taken exactly when its relation is well shaped and all its pairs keep the rules within it.
@@ -103,23 +104,22 @@ pub record HandOutAnswered (rows : List Row) (H : Pairs) (buffer : List ℕ) (o 
 
 -- An order is shown for a pair held as no: a table of nodes whose last fits the first row and not the second.
 pub record ShowAnswered (rows : List Row) (H : Pairs) (p q : ℕ) (buffer : List Node) (o : Outcome ℕ) (after : List Node) : Type 0 where
-  pub outside : (InTable rows p q → ⊥) → (o ≡ refuses (book_refusal RowOutside)) × (after ≡ buffer)
-  pub not_no : InTable rows p q → (HeldAsNo rows H p q → ⊥) → (o ≡ refuses (book_refusal NotHeldAsNo)) × (after ≡ buffer)
-  pub few : InTable rows p q → HeldAsNo rows H p q → length buffer < length rows * (length rows + 1) → (o ≡ refuses (book_refusal FewNodes)) × (after ≡ buffer)
-  pub shows : InTable rows p q → HeldAsNo rows H p q → length rows * (length rows + 1) ≤ length buffer →
-      (k : ℕ) × (o ≡ gives k) × (k ≤ length rows * (length rows + 1)) × Witnesses rows p q (take k after) × (drop k after ≡ drop k buffer) × (length after ≡ length buffer)
+  pub outside : (InTable rows p q → ⊥) → (o ≡ refuses (book_refusal (NoRow Outside))) × (after ≡ buffer)
+  pub not_no : InTable rows p q → (HeldAsNo rows H p q → ⊥) → (o ≡ refuses (book_refusal (NotShown NotNo))) × (after ≡ buffer)
+  pub few : InTable rows p q → HeldAsNo rows H p q → length buffer < places rows → (o ≡ refuses (book_refusal (NotShown FewNodes))) × (after ≡ buffer)
+  pub shows : InTable rows p q → HeldAsNo rows H p q → places rows ≤ length buffer →
+      (k : ℕ) × (o ≡ gives k) × (k ≤ places rows) × Witnesses rows p q (take k after) × (drop k after ≡ drop k buffer) × (length after ≡ length buffer)
 
 -- bit r of mark i is set exactly if the document of node i fits row r
 abbrev pub MarksTell : List Row → List Node → List ℕ → Type 0
-MarksTell rows nodes marks = (i : ℕ) → i < length nodes → (d : Document) → StandsFor nodes i d → (r : ℕ) → r < max_rows → Decides (cell marks i r) ((r < length rows) × Fits rows d r)
+MarksTell rows nodes marks = (i : ℕ) → i < length nodes → ItsDocument nodes i (λ d. (r : ℕ) → r < max_rows → Decides (cell marks i r) ((r < length rows) × Fits rows d r))
 
--- A fit marks for each node the rows that its document fits, and says whether the root fits the row.
+-- A fit marks for each node the rows that its document fits, and says whether the root's fits the row.
 pub record FitAnswered (rows : List Row) (H : Pairs) (nodes : List Node) (root row : ℕ) (marks : List ℕ) (o : Outcome (Bool × ℕ)) (after : List ℕ) : Type 0 where
-  pub outside : (row < length rows → ⊥) → (o ≡ refuses (book_refusal RowOutside)) × (after ≡ marks)
-  pub unfit : row < length rows → (e : Refusal) → Unfit rows nodes root (length marks) e → (o ≡ refuses e) × (after ≡ marks)
-  pub fits : FitTaken rows nodes root row (length marks) →
-      (yes : Bool) × (new : ℕ) × (o ≡ gives (yes, new)) × ((d : Document) → StandsFor nodes root d → Decides yes (Fits rows d row)) × Counts (length rows) (Newly rows H (fit nodes root row marks)) new
-  pub marked : FitTaken rows nodes root row (length marks) → MarksTell rows nodes after × (length after ≡ length marks)
+  pub unfit : (e : Refusal) → Unfit rows nodes root row (length marks) e → (o ≡ refuses e) × (after ≡ marks)
+  pub fits : Fittable rows nodes root row (length marks) →
+      (yes : Bool) × (new : ℕ) × (o ≡ gives (yes, new)) × ItsDocument nodes root (λ d. Decides yes (Fits rows d row)) × Counts (length rows) (Newly rows H (fit nodes root row marks)) new
+  pub marked : Fittable rows nodes root row (length marks) → MarksTell rows nodes after × (length after ≡ length marks)
 
 -- What an open book that holds the pairs of H answers to a call.
 abbrev pub Answered : List Row → Pairs → Call → Answer → Type 0

@@ -1,21 +1,20 @@
--- What a book is when it is made, and what it does at a call. Assumes nothing.
-use Rattle.std.specs.Prelude.{◌≡◌, ℕ, false, List, Ok, Err}
+-- What rows a book is over, and what it does at a call. Assumes nothing.
+use Rattle.std.specs.Prelude.{◌≡◌, ℕ, List, Ok, Err, Decides}
 use Rattle.forms.specs.Refusals.{Refusal}
 use Rattle.forms.specs.Refusals.Outcome.{refuses}
 use Rattle.forms.specs.declared.Row.{Row}
 use Rattle.relation.specs.Admission.{Admitted, Finds}
 use Rattle.relation.specs.Faults.{admission_refusal}
-use Rattle.book.specs.Calls.{Call, Answer}
+use Rattle.book.specs.Answers.{After, Answered}
+use Rattle.book.specs.Calls.{Call, Answer, Refuses}
 use Rattle.book.specs.Calls.Answer.{asked, offered, looked_up, counted, handed_out, shown, fitted, cleared}
 use Rattle.book.specs.Calls.Call.{ask, offer, look_up, held, hands_out, show, fit, clear}
-use Rattle.book.specs.Doing.{Done}
-use Rattle.book.specs.Ledgers.{Pages, ledger_rows, holds}
-use Rattle.book.specs.declared.ledger.Ledger.{Ledger}
+use Rattle.book.specs.Ledgers.{Pages, ledger_rows, holds_in, HoldsIn}
 
--- A book that is made is open with no pair held if admission finds no fault in its rows, else shut with that fault.
-abbrev pub Made : List Row → Pages → Type 0
-Made rows (Ok l) = Admitted rows × (ledger_rows l ≡ rows) × ((a b : ℕ) → holds l a b ≡ false)
-Made rows (Err fault) = Finds rows (admission_refusal fault)
+-- The pages of a book over the rows: an open one has their table, and a shut one the fault that admission finds in them.
+abbrev pub Over : List Row → Pages → Type 0
+Over rows (Ok l) = Admitted rows × (ledger_rows l ≡ rows)
+Over rows (Err fault) = Finds rows (admission_refusal fault)
 
 -- Every call on a shut book gives admission's refusal, and buffers keep what they had.
 abbrev pub ShutAnswered : Refusal → Call → Answer → Type 0
@@ -28,7 +27,13 @@ ShutAnswered e (show p q buffer) answer = answer ≡ shown (refuses e) buffer
 ShutAnswered e (fit nodes root row marks) answer = answer ≡ fitted (refuses e) marks
 ShutAnswered e clear answer = answer ≡ cleared (refuses e)
 
--- What a book does at a call: a shut one refuses it and stays as it was, an open one answers from the pairs that it holds and stays open.
-abbrev pub Meets : Pages → Call → Answer → Pages → Type 0
-Meets (Ok l) call answer after = (l' : Ledger) × Done l call answer l' × (after ≡ Ok l')
-Meets (Err fault) call answer after = ShutAnswered (admission_refusal fault) call answer × (after ≡ Err fault)
+-- What a book over the rows does at a call.
+pub record Met (rows : List Row) (before : Pages) (call : Call) (answer : Answer) (after : Pages) : Type 0 where
+  -- if admission finds no fault, it answers from the pairs that it holds,
+  pub answered : Admitted rows → Answered rows (HoldsIn before) call answer
+  -- and holds then what is held after the call
+  pub held_after : Admitted rows → (a b : ℕ) → Decides (holds_in after a b) (After rows (HoldsIn before) call a b)
+  -- if admission finds a fault, every answer is that refusal
+  pub shut : (e : Refusal) → Finds rows e → ShutAnswered e call answer
+  -- a refusal changes nothing
+  pub unchanged : (e : Refusal) → Refuses answer e → after ≡ before

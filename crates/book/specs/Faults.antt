@@ -5,17 +5,18 @@ use Rattle.forms.specs.Refusals.Refusal.{refusal}
 use Rattle.forms.specs.Refusals.Outcome.{refuses, gives}
 use Rattle.fitting.specs.Faults.{fit_refusal}
 use Rattle.relation.specs.Faults.{admission_refusal}
+use Rattle.showing.specs.Faults.{show_refusal}
+use Rattle.verdicts.specs.Faults.{row_refusal}
 use Rattle.book.specs.declared.types.BookFault.{BookFault}
-use Rattle.book.specs.declared.types.BookFault.TheVariants.{NotAdmitted, RowOutside, RelationLength, BitOutside, RuleBroken, NotHeldAsNo, FewNodes, NotFitted}
+use Rattle.book.specs.declared.types.BookFault.TheVariants.{NotAdmitted, NoRow, RelationLength, BitOutside, RuleBroken, NotShown, NotFitted}
 
 abbrev pub book_refusal : BookFault → Refusal
 book_refusal (NotAdmitted fault) = admission_refusal fault
-book_refusal RowOutside = refusal 21 []
+book_refusal (NoRow fault) = row_refusal fault
 book_refusal RelationLength = refusal 22 []
 book_refusal BitOutside = refusal 23 []
 book_refusal (RuleBroken p q) = refusal 24 (p ∷ (q ∷ []))
-book_refusal NotHeldAsNo = refusal 25 []
-book_refusal FewNodes = refusal 26 []
+book_refusal (NotShown fault) = show_refusal fault
 book_refusal (NotFitted fault) = fit_refusal fault
 
 -- what a call gives: its result, or the refusal that its fault is

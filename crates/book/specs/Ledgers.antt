@@ -1,5 +1,5 @@
 -- What an open book holds, and that what its ghost field holds as a mere fact can be had. Assumes nothing.
-use Rattle.std.specs.Prelude.{◌≡◌, ℕ, true, List, length, Ok, Err, Result}
+use Rattle.std.specs.Prelude.{◌≡◌, ℕ, true, false, List, length, Ok, Err, Result}
 use Rattle.forms.specs.Buffers.{rows_of}
 use Rattle.forms.specs.declared.Row.{Row}
 use Rattle.relation.specs.declared.AdmissionFault.{AdmissionFault}
@@ -27,6 +27,9 @@ abbrev pub Pages : Type 0
 Pages = Result Ledger AdmissionFault
 
 -- the pairs that a book holds: a shut one holds none
+abbrev pub holds_in : Pages → Relation
+holds_in (Ok l) a b = holds l a b
+holds_in (Err fault) a b = false
+
 abbrev pub HoldsIn : Pages → ℕ → ℕ → Type 0
-HoldsIn (Ok l) a b = Holds l a b
-HoldsIn (Err fault) a b = ⊥
+HoldsIn pages a b = holds_in pages a b ≡ true

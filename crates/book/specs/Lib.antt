@@ -8,5 +8,4 @@ pub mod Doing
 pub mod Books
 pub mod Lending
 pub mod Runs
-pub mod Carrying
 pub mod Worked

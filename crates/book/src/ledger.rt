@@ -5,8 +5,7 @@ ghost use Rattle.book.specs.Keeping.{Kept};
 use verdicts::prepared::Prepared;
 use verdicts::prepared::deciding::PAIR_WORDS;
 
-// The pairs held, those of them that are yes, and those of which all that they lean on is held.
-// As it is: three sets side by side, since the functions of sets and verdicts take each as a slice of its own.
+// The pairs held, those of them that are yes, and those of which all that they lean on is held. They are three sets side by side, since the functions of sets and verdicts take each as a slice of its own.
 #[derive(Drop)]
 pub struct Ledger {
     prepared: Prepared,

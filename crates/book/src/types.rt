@@ -1,37 +1,37 @@
 // What a book answers, and why it refuses.
 ghost use Rattle.std.specs.Prelude.{◌≡◌};
 ghost use Rattle.book.specs.Faults.{book_refusal};
-ghost use Rattle.book.specs.declared.types.BookFault.TheVariants.{NotAdmitted, NotFitted};
+ghost use Rattle.book.specs.declared.types.BookFault.TheVariants.{NotAdmitted, NoRow, NotShown, NotFitted};
 
 use fitting::faults::FitFault;
 use forms::refusals::Refused;
 use relation::AdmissionFault;
+use showing::faults::ShowFault;
+use verdicts::faults::RowFault;
 
-// Whether every order that fits the first row of a pair fits the second.
+/// Whether every order that fits the first row of a pair fits the second.
 #[derive(Clone, Copy, PartialEq, Eq, Debug)]
 pub enum Verdict {
     Yes,
     No,
 }
 
-// Why a call is refused.
+/// Why a call on a book is refused: the first case that holds. `book_refusal` gives its number and values.
 #[derive(Clone, Copy, PartialEq, Eq, Debug)]
 pub enum BookFault {
-    // the book is shut: its table is not admitted
+    /// 11, 12 or 13: the book is shut, since its table is not admitted.
     NotAdmitted(AdmissionFault),
-    // a row number is not below the count of rows
-    RowOutside,
-    // a relation or a buffer for one has another length than pairs of rows take
+    /// 21: a row number is not below the count of rows.
+    NoRow(RowFault),
+    /// 22: a relation, or a buffer for one, has not the length of n² bits in 64-bit numbers, rounded up.
     RelationLength,
-    // a relation has a bit that is no pair's
+    /// 23: a relation has a bit that is no pair's.
     BitOutside,
-    // the lowest pair of a relation that breaks the rules within it
+    /// 24: the lowest pair of a relation, as a bit, that breaks the rules within it.
     RuleBroken { p: u8, q: u8 },
-    // the pair is not held as no
-    NotHeldAsNo,
-    // fewer nodes than one a row and one a pair of rows
-    FewNodes,
-    // the nodes cannot be fitted
+    /// 25: the pair is not held as no. 26: there are fewer nodes than one a row and one a pair of rows.
+    NotShown(ShowFault),
+    /// 21, 30, 31, 32 or 33: the order cannot be fitted to the row.
     NotFitted(FitFault),
 }
 
@@ -40,6 +40,22 @@ impl From<AdmissionFault> for BookFault {
 
     fn from(e: AdmissionFault) -> BookFault {
         BookFault::NotAdmitted(e)
+    }
+}
+
+impl From<RowFault> for BookFault {
+    ghost from_gives = { λ e f. f ≡ NoRow e };
+
+    fn from(e: RowFault) -> BookFault {
+        BookFault::NoRow(e)
+    }
+}
+
+impl From<ShowFault> for BookFault {
+    ghost from_gives = { λ e f. f ≡ NotShown e };
+
+    fn from(e: ShowFault) -> BookFault {
+        BookFault::NotShown(e)
     }
 }
 
@@ -57,12 +73,11 @@ impl Refused for BookFault {
     fn number(&self) -> u8 {
         match self {
             BookFault::NotAdmitted(fault) => fault.number(),
-            BookFault::RowOutside => 21,
+            BookFault::NoRow(fault) => fault.number(),
             BookFault::RelationLength => 22,
             BookFault::BitOutside => 23,
             BookFault::RuleBroken { .. } => 24,
-            BookFault::NotHeldAsNo => 25,
-            BookFault::FewNodes => 26,
+            BookFault::NotShown(fault) => fault.number(),
             BookFault::NotFitted(fault) => fault.number(),
         }
     }

@@ -1,6 +1,7 @@
 // The faults of a book in words.
 use super::types::BookFault;
 use forms::refusals::Refused;
+use showing::faults::ShowFault;
 use std::error::Error;
 use std::fmt;
 
@@ -9,10 +10,7 @@ impl fmt::Display for BookFault {
         let number = self.number();
         match self {
             BookFault::NotAdmitted(fault) => write!(f, "the book is shut: {fault}"),
-            BookFault::RowOutside => write!(
-                f,
-                "refused ({number}): a row number is not below the count of rows"
-            ),
+            BookFault::NoRow(fault) => write!(f, "{fault}"),
             BookFault::RelationLength => write!(
                 f,
                 "refused ({number}): the length is not that of a relation between the rows, which is one bit a pair in 64-bit numbers, rounded up"
@@ -25,14 +23,11 @@ impl fmt::Display for BookFault {
                 f,
                 "refused ({number}): the pair ({p}, {q}) breaks the rules within the relation"
             ),
-            BookFault::NotHeldAsNo => write!(
+            BookFault::NotShown(ShowFault::NotNo) => write!(
                 f,
                 "refused ({number}): the pair is not held as no, so there is nothing to show"
             ),
-            BookFault::FewNodes => write!(
-                f,
-                "refused ({number}): there are fewer nodes than one a row and one a pair of rows"
-            ),
+            BookFault::NotShown(fault) => write!(f, "{fault}"),
             BookFault::NotFitted(fault) => write!(f, "{fault}"),
         }
     }

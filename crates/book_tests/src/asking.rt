@@ -6,6 +6,7 @@ use forms::FormSource;
 use forms::makes::{Joined, Turned};
 use std::process::Abort;
 use texts::RowText;
+use verdicts::faults::RowFault;
 
 // Each pair is asked about on an empty book: its verdict, and how many pairs are new.
 fn ask_each<S: FormSource>(
@@ -95,8 +96,11 @@ fn held_until_cleared(rt: HostRuntime) {
 fn outside(rt: HostRuntime) {
     let mut book = worked();
     for pair in [(10, 0), (0, 10), (255, 255)] {
-        assert_eq!(rt; book.ask(pair), Err(BookFault::RowOutside));
-        assert_eq!(rt; book.look_up(pair), Err(BookFault::RowOutside));
+        assert_eq!(rt; book.ask(pair), Err(BookFault::NoRow(RowFault::Outside)));
+        assert_eq!(rt;
+            book.look_up(pair),
+            Err(BookFault::NoRow(RowFault::Outside))
+        );
     }
     assert_eq!(rt; book.held(), Ok(0));
 }

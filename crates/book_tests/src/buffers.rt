@@ -1,12 +1,17 @@
 // Handing out, showing and fitting, and what their buffers hold then.
-use super::tables::{PATTERN, worked};
-use book::types::BookFault;
+use super::tables::{PATTERN, TABLE, worked};
+use book::Book;
+use book::types::{BookFault, Verdict};
 use documents::nodes::{MAX_NODES, Node};
 use documents::writer::write_document;
 use fitting::faults::FitFault;
+use forms::makes::Turned;
 use relation::offering::{ROW_WORDS, has};
+use showing::faults::ShowFault;
 use std::process::Abort;
 use std::test::Fail;
+use texts::RowText;
+use verdicts::faults::RowFault;
 
 const MARKS: usize = 2 * ROW_WORDS;
 
@@ -28,8 +33,27 @@ fn handed_out(rt: HostRuntime) {
     assert_eq!(rt; book.offer(&right), Ok(3));
 }
 
+// What one book hands out is taken by another over equal rows, whatever it holds and whatever the make of its source.
+#[test]
+fn handed_over(rt: HostRuntime) {
+    let mut book = worked();
+    assert!(rt; book.ask((1, 2)).is_ok());
+    assert!(rt; book.ask((2, 1)).is_ok());
+    let mut relation = [PATTERN; 2];
+    assert_eq!(rt; book.hand_out(&mut relation), Ok(2));
+    let twice = Turned {
+        source: Turned {
+            source: RowText::new(TABLE),
+        },
+    };
+    let mut other = Book::new(twice);
+    assert_eq!(rt; other.ask((8, 8)), Ok((Verdict::Yes, 2)));
+    assert_eq!(rt; other.offer(&relation), Ok(1));
+    assert_eq!(rt; other.look_up((1, 2)), Ok(Some(Verdict::Yes)));
+    assert_eq!(rt; other.look_up((2, 1)), Ok(None));
+}
+
 // Whether the last of the first k nodes is written as that text.
-// As it is: the tests of showing have the same, since a crate of tests hands nothing to another.
 fn check_text(rt: &impl Abort, nodes: &[Node], k: usize, text: &[u8]) -> Result<(), Fail> {
     if k == 0 || k > nodes.len() {
         return Err(Fail::new("there are no such nodes"));
@@ -64,10 +88,10 @@ fn not_shown(rt: HostRuntime) {
     assert!(rt; book.ask((1, 2)).is_ok());
     assert!(rt; book.ask((2, 1)).is_ok());
     for (pair, fault) in [
-        ((10, 1), BookFault::RowOutside),
-        ((8, 9), BookFault::NotHeldAsNo),
-        ((1, 2), BookFault::NotHeldAsNo),
-        ((2, 1), BookFault::FewNodes),
+        ((10, 1), BookFault::NoRow(RowFault::Outside)),
+        ((8, 9), BookFault::NotShown(ShowFault::NotNo)),
+        ((1, 2), BookFault::NotShown(ShowFault::NotNo)),
+        ((2, 1), BookFault::NotShown(ShowFault::FewNodes)),
     ] {
         let mut few = [Node::Reference(9); 109];
         assert_eq!(rt; book.show(pair, &mut few), Err(fault));
@@ -132,7 +156,10 @@ const LOOPED: Node = Node::Element {
 fn fitted_to_no_row(rt: HostRuntime) {
     let mut marks = [PATTERN; MARKS];
     let fitted = worked().fit(&[LOOPED], 9, 10, &mut marks);
-    assert_eq!(rt; fitted, Err(BookFault::RowOutside));
+    assert_eq!(rt;
+        fitted,
+        Err(BookFault::NotFitted(FitFault::NoRow(RowFault::Outside)))
+    );
     assert_eq!(rt; marks, [PATTERN; MARKS]);
 }
 

@@ -1,6 +1,7 @@
 // Lists of calls, performed on a book of their own.
 use super::tables::{TABLE, TWO_PAIRS};
 use book::types::Verdict;
+use forms::FormSource;
 use replay::exchange::{Answer, Call};
 use replay::performing::replay;
 use std::alloc::Global;
@@ -40,11 +41,14 @@ fn right_answers(heap: Global) -> Result<[Answer; 6], Fail> {
 fn replayed(rt: HostRuntime) -> Result<(), Fail> {
     let calls = some_calls(rt.alloc())?;
     let room = Vec::with_capacity(rt.alloc(), 6)?;
-    let Some(answers) = replay(RowText::new(TABLE), calls, room) else {
+    let Ok((mut book, answers)) = replay(RowText::new(TABLE), calls, room) else {
         return Err(Fail::new("there is room enough"));
     };
     let right = right_answers(rt.alloc())?;
     assert_eq!(rt; answers.as_slice(), right.as_slice());
+    // the run goes on with the book that is given back
+    assert_eq!(rt; book.held(), Ok(0));
+    assert_eq!(rt; book.ask((1, 2)), Ok((Verdict::Yes, 2)));
     Ok(())
 }
 
@@ -52,6 +56,9 @@ fn replayed(rt: HostRuntime) -> Result<(), Fail> {
 fn too_little_room(rt: HostRuntime) -> Result<(), Fail> {
     let calls = some_calls(rt.alloc())?;
     let room = Vec::new(rt.alloc());
-    assert!(rt; replay(RowText::new(TABLE), calls, room).is_none());
+    let Err(source) = replay(RowText::new(TABLE), calls, room) else {
+        return Err(Fail::new("there is no room"));
+    };
+    assert_eq!(rt; source.count(), 10);
     Ok(())
 }

@@ -5,7 +5,7 @@ use texts::RowText;
 pub(crate) const TABLE: &[u8] =
     b"V,,,\nE,0000000000000002,0,0\nE,0000000000000006,0,0\nC,o,1,\nC,o,2,\nC,b,1,\nE,0000000000000002,0,6\nN,,,\nU,,0,9\nE,0000000000000002,0,8\n";
 
-// The same with a row 10 that offers rows 1 and 2, which have label 1 in common.
+// That table with a row 10 that offers rows 1 and 2, which have label 1 in common.
 pub(crate) const SHUT: &[u8] =
     b"V,,,\nE,0000000000000002,0,0\nE,0000000000000006,0,0\nC,o,1,\nC,o,2,\nC,b,1,\nE,0000000000000002,0,6\nN,,,\nU,,0,9\nE,0000000000000002,0,8\nU,,1,2\n";
 

@@ -2,6 +2,7 @@
 use book::types::{BookFault, Verdict};
 use documents::nodes::Node;
 
+/// A call on a book, with what its buffers hold before it.
 #[derive(Drop)]
 pub enum Call {
     // is the first row below the second?
@@ -23,6 +24,7 @@ pub enum Call {
     Clear,
 }
 
+/// An answer, with what the call's buffer holds after it.
 #[derive(PartialEq, Eq, Debug, Drop)]
 pub enum Answer {
     Asked(Result<(Verdict, usize), BookFault>),

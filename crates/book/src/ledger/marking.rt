@@ -1,20 +1,20 @@
 // Fitting document tables to the rows of an open book.
-ghost use Rattle.std.specs.Prelude.{◌≡◌, ℕ, ◌*◌, ◌≤◌, true, false, List, length, Decides, MatchResult};
+ghost use Rattle.std.specs.Prelude.{◌≡◌, ℕ, ◌*◌, ◌≤◌, true, false, length, Decides, MatchResult};
 ghost use Rattle.sets.specs.Sets.{member};
-ghost use Rattle.forms.specs.Refusals.Outcome.{refuses};
-ghost use Rattle.fitting.specs.Marks.{Among, Marked, TellsRoot};
+ghost use Rattle.fitting.specs.Faults.{fit_refusal};
+ghost use Rattle.fitting.specs.Fittable.{Fittable, Unfit};
 ghost use Rattle.verdicts.specs.Pairs.{Leaned};
-ghost use Rattle.book.specs.Answers.{FitTaken};
 ghost use Rattle.book.specs.Calls.Answer.{fitted};
 ghost use Rattle.book.specs.Calls.Call.{fit};
 ghost use Rattle.book.specs.Doing.{Done};
-ghost use Rattle.book.specs.Faults.{book_refusal, outcome};
+ghost use Rattle.book.specs.Faults.{outcome};
 ghost use Rattle.book.specs.Keeping.{Grew};
 ghost use Rattle.book.specs.Ledgers.{ledger_rows};
 
 use super::super::types::BookFault;
 use super::Ledger;
 use fitting::checking::check;
+use fitting::faults::FitFault;
 use fitting::marking::mark;
 use fitting::order::Order;
 use fitting::wanting::wanted;
@@ -42,24 +42,11 @@ impl Ledger {
         self.settle(leaned)
     }
 
-    // Whether an order can be fitted and the row is one of the table, or why not.
-    fn fittable(&self, order: &Order, row: u8, marks: usize) -> Result<(), BookFault>
-        ensures { MatchResult result (λ _. FitTaken (ledger_rows self.now) order.now.nodes.now order.now.root row marks) (λ e. (words : List ℕ) → length words ≡ marks → Done self.now (fit order.now.nodes.now order.now.root row words) (fitted (refuses (book_refusal e)) words) self.now) }
+    // Nothing, if an order can be fitted to the row; else why not. The whole ledger is lent to it, so that a refused fit shows at once that it changes nothing.
+    fn fittable(&self, order: &Order, row: u8, marks: usize) -> Result<(), FitFault>
+        ensures { MatchResult result (λ _. Fittable (ledger_rows self.now) order.now.nodes.now order.now.root row marks) (λ e. Unfit (ledger_rows self.now) order.now.nodes.now order.now.root row marks (fit_refusal e)) }
     {
-        if row as usize >= self.prepared.count() {
-            return Err(BookFault::RowOutside);
-        }
-        check(&self.prepared, order, marks)?;
-        Ok(())
-    }
-
-    // Marks for each node the rows that it fits by the pairs that are yes, and tells whether the root fits the row.
-    fn mark_nodes(&self, order: &Order, row: u8, marks: &mut [u64]) -> bool
-        requires { FitTaken (ledger_rows self.now) order.now.nodes.now order.now.root row (length marks.old) }
-        ensures marked { Marked (ledger_rows self.now) (Among (length (ledger_rows self.now)) self.now.yes) order.now.nodes.now marks.new }
-        ensures told { TellsRoot (ledger_rows self.now) (Among (length (ledger_rows self.now)) self.now.yes) order.now.nodes.now order.now.root row result }
-    {
-        mark(&self.prepared, &self.yes, order, row, marks).unwrap()
+        check(&self.prepared, order, row, marks)
     }
 
     // Settles each pair of a referenced row and a channel row, and then marks for each node the rows that it fits.
@@ -74,7 +61,7 @@ impl Ledger {
         self.fittable(order, row, marks.len())?;
         let pairs = wanted(&self.prepared, order.nodes);
         let new = self.settle_all(pairs);
-        let fits = self.mark_nodes(order, row, marks);
+        let fits = mark(&self.prepared, &self.yes, order, row, marks)?;
         Ok((fits, new))
     }
 }

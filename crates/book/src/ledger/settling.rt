@@ -34,7 +34,7 @@ impl Ledger {
     fn has_settled(&self, pair: (u8, u8)) -> bool
         ensures { result ≡ related (length (ledger_rows self.now)) self.now.settled pair.0 pair.1 }
     {
-        self.prepared.relates(&self.settled, pair.0, pair.1)
+        self.prepared.relates(&self.settled, pair)
     }
 
     // Whether the first row of a pair is below the second, and how many pairs are new. If all that it leans on is held already, nothing is to be done.
@@ -44,7 +44,7 @@ impl Ledger {
         if self.has_settled(pair) {
             return Ok((self.verdict(pair), 0));
         }
-        self.in_table(pair)?;
+        self.prepared.in_table(pair)?;
         let leaned = self.prepared.leaned(pair);
         let new = self.settle(leaned);
         Ok((self.verdict(pair), new))

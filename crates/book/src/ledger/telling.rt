@@ -1,17 +1,14 @@
 // What an open book tells without a change.
-ghost use Rattle.std.specs.Prelude.{◌≡◌, ◌*◌, ◌/◌, ◌≤◌, if◌then◌else◌, MatchResult};
+ghost use Rattle.std.specs.Prelude.{◌≡◌, ◌*◌, ◌/◌, ◌≤◌, if◌then◌else◌};
 ghost use Rattle.sets.specs.Sets.{word};
 ghost use Rattle.forms.specs.Limits.{max_rows};
 ghost use Rattle.forms.specs.Refusals.Outcome.{gives};
-ghost use Rattle.book.specs.Answers.{InTable};
-ghost use Rattle.book.specs.Carrying.{Told};
 ghost use Rattle.book.specs.Calls.Answer.{looked_up, counted, handed_out};
 ghost use Rattle.book.specs.Calls.Call.{look_up, held as count_held, hands_out};
-ghost use Rattle.book.specs.Doing.{Done};
+ghost use Rattle.book.specs.Doing.{Done, Told};
 ghost use Rattle.book.specs.Faults.{outcome};
 ghost use Rattle.book.specs.Ledgers.{ledger_rows, says_yes};
 ghost use Rattle.book.specs.Relations.{words_for};
-ghost use Rattle.book.specs.declared.types.BookFault.TheVariants.{RowOutside};
 ghost use Rattle.book.specs.declared.types.Verdict.TheVariants.{Yes, No};
 
 use super::super::types::{BookFault, Verdict};
@@ -28,19 +25,11 @@ pub(crate) fn numbers_for(n: usize) -> usize
 }
 
 impl Ledger {
-    // Whether both are rows of the table.
-    pub(crate) fn in_table(&self, pair: (u8, u8)) -> Result<(), BookFault>
-        ensures { MatchResult result (λ _. InTable (ledger_rows self.now) pair.0 pair.1) (λ e. (e ≡ RowOutside) × (InTable (ledger_rows self.now) pair.0 pair.1 → ⊥)) }
-    {
-        self.prepared.place(pair).ok_or(BookFault::RowOutside)?;
-        Ok(())
-    }
-
     // The verdict that is kept of a pair that is held.
     pub(crate) fn verdict(&self, pair: (u8, u8)) -> Verdict
         ensures { result ≡ (if says_yes self.now pair.0 pair.1 then Yes else No) }
     {
-        if self.prepared.relates(&self.yes, pair.0, pair.1) {
+        if self.prepared.relates(&self.yes, pair) {
             Verdict::Yes
         } else {
             Verdict::No
@@ -51,8 +40,8 @@ impl Ledger {
     pub(crate) fn look_up(&self, pair: (u8, u8)) -> Result<Option<Verdict>, BookFault>
         ensures { Done self.now (look_up pair.0 pair.1) (looked_up (outcome result)) self.now }
     {
-        self.in_table(pair)?;
-        if self.prepared.relates(&self.held, pair.0, pair.1) {
+        self.prepared.in_table(pair)?;
+        if self.prepared.relates(&self.held, pair) {
             Ok(Some(self.verdict(pair)))
         } else {
             Ok(None)
@@ -79,7 +68,7 @@ impl Ledger {
     }
 
     // The pairs held as yes, as a relation.
-    pub(crate) fn told(&self) -> &[u64]
+    fn told(&self) -> &[u64]
         ensures { Told self.now result.now }
     {
         &self.yes[..numbers_for(self.prepared.count())]

@@ -1,5 +1,10 @@
-use Rattle.book.proofs.Meeting.{open_stays}
+use Rattle.std.proofs.Common.{ap}
+use Rattle.book.specs.Calls.Answer.{handed_out}
+use Rattle.book.proofs.Meeting.{passed, open_stays, shut_met}
 use Rattle.book.proofs.Book.hand_out.Goals as goal
 
+pub returns-in_err-open : goal.returns-in_err-open
+returns-in_err-open g c = shut_met _ c.args.self.now.pages c.args.self.now.over _ _ c.in_err-open.field-0.0 c.in_err-open.ensures (ap (λ o. handed_out o c.args.buffer.now) (passed c.from_residual.result _ c.from_residual.ensures.1))
+
 pub returns : goal.returns
-returns g c = open_stays c.args.self.now.pages _ _ _ c.in_ok-open.ensures c.hand_out.ensures
+returns g c = open_stays _ c.args.self.now.pages c.args.self.now.over _ _ _ c.in_ok-open.ensures c.hand_out.ensures

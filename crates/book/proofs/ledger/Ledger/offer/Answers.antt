@@ -40,7 +40,6 @@ invariant_of-self c =
 pub returns : goal.returns
 returns c =
     let l = c.args.self.now in
-    let rows = ledger_rows l in
     let words = c.args.relation.now in
     let shaped = shape l c.count-n.result words _ c.next.result c.count-n.ensures.is c.if-relation-numbers_for.false c.numbers_for.ensures.is c.next.ensures (sym c.if-is_some.ensures) in
     taken_done l words _ c.join-2.result refl (record { shaped = shaped; closed = c.in_default.ensures }) c.join-2.ensures.members c.join-2.ensures.new
