@@ -58,29 +58,29 @@ uint64_t compare(const uint8_t *ours, size_t ours_length,
 
 /* The layers. */
 enum formbook_layer {
-    FORMBOOK_ANSWER = 0,
-    FORMBOOK_OUR_TEXT = 1,
-    FORMBOOK_THEIR_TEXT = 2,
-    FORMBOOK_OUR_TABLE = 3,
-    FORMBOOK_THEIR_TABLE = 4,
-    FORMBOOK_JOINING = 5,
-    FORMBOOK_BOOK = 6,
-    FORMBOOK_WRITING = 7
+    FORMBOOK_ANSWER = 0,      /* no fault: yes or no */
+    FORMBOOK_OUR_TEXT = 1,    /* the text of ours is refused */
+    FORMBOOK_THEIR_TEXT = 2,  /* the text of theirs is refused */
+    FORMBOOK_OUR_TABLE = 3,   /* the table of ours is not admitted */
+    FORMBOOK_THEIR_TABLE = 4, /* the table of theirs is not admitted */
+    FORMBOOK_JOINING = 5,     /* the two tables cannot be joined */
+    FORMBOOK_BOOK = 6,        /* there is no such row to compare */
+    FORMBOOK_WRITING = 7      /* no, and the order's text is not written */
 };
 
-/* The codes. */
+/* The codes, each with the layers that have it. */
 enum formbook_code {
-    FORMBOOK_YES = 0,
-    FORMBOOK_NO = 1,
-    FORMBOOK_TEXT_TOO_LONG = 1,
-    FORMBOOK_WRONG_LINE = 2,
-    FORMBOOK_TOO_MANY_LINES = 3,
-    FORMBOOK_TOO_MANY_ROWS = 10,
-    FORMBOOK_NO_ROWS = 11,
-    FORMBOOK_NUMBER_OUTSIDE = 12,
-    FORMBOOK_LABEL_TWICE = 13,
-    FORMBOOK_ROW_OUTSIDE = 21,
-    FORMBOOK_ORDER_TOO_LONG = 45
+    FORMBOOK_YES = 0,             /* layer 0; the place is 0 too */
+    FORMBOOK_NO = 1,              /* layer 0; the place is the length of the order's text */
+    FORMBOOK_TEXT_TOO_LONG = 1,   /* layers 1 and 2 */
+    FORMBOOK_WRONG_LINE = 2,      /* layers 1 and 2; the place is 4 * line + field */
+    FORMBOOK_TOO_MANY_LINES = 3,  /* layers 1 and 2 */
+    FORMBOOK_TOO_MANY_ROWS = 10,  /* layer 5 */
+    FORMBOOK_NO_ROWS = 11,        /* layers 3 and 4 */
+    FORMBOOK_NUMBER_OUTSIDE = 12, /* layers 3 and 4; the place is the row */
+    FORMBOOK_LABEL_TWICE = 13,    /* layers 3 and 4; the place is the row */
+    FORMBOOK_ROW_OUTSIDE = 21,    /* layer 6; the place is 1 if only q is outside */
+    FORMBOOK_ORDER_TOO_LONG = 45  /* layer 7 */
 };
 
 /* The parts of a result. */

@@ -1,52 +1,42 @@
--- What a question comes to: a fault, or what is found in the one table of ours and theirs. Assumes nothing.
-use Rattle.std.proofs.Common.{◌≡◌, ℕ, ◌+◌, true, eqb, List, map, length, is_err, IsErrAnd, Ok, Err, Result, sym, refl, ap, subst, ⊎_elim, arith}
-use lib.ListN.{length-map}
-use Rattle.std.proofs.lemmas.Bool.{cond-true, cond-false, cases_Bool, eqb-true, eq-eqb}
-use Rattle.forms.specs.Rows.{joined, turn}
+-- What a question comes to: its first fault, or what is found in the one table of ours and theirs. Assumes nothing.
+use Rattle.std.proofs.Common.{◌≡◌, ℕ, ◌≤◌, true, eqb, List, map, length, is_err, IsErrAnd, Ok, Err, Result, refl, ap, ◌∙◌, arith}
+use Rattle.std.proofs.lemmas.List.{length-map}
+use Rattle.std.proofs.lemmas.Bool.{cond_both}
+use Rattle.forms.specs.Rows.{turn}
 use Rattle.forms.specs.declared.Row.{Row}
 use Rattle.forms.proofs.Findings.{never}
-use Rattle.forms.proofs.Sides.{length_joined}
 use Rattle.relation.specs.Admission.{Admitted}
 use Rattle.relation.proofs.Sources.{joined_is_admitted, turned_is_admitted}
-use Rattle.book.specs.Answers.{InTable}
-use Rattle.compare.specs.Comparing.{Found, Refused, Settled}
-use Rattle.compare.specs.Reasons.{Read, Joinable, OfTables, Faulty, facing}
+use Rattle.compare.specs.Comparing.{Found, Refused}
+use Rattle.compare.specs.Questions.{Asked}
+use Rattle.compare.specs.Layers.{OutsideOf}
+use Rattle.compare.specs.Reasons.{Read, Refusable, Comparable, facing, together}
+use Rattle.compare.specs.Reasons.Refusable.{our_row, their_row}
+use Rattle.compare.specs.Reports.{report}
 use Rattle.compare.specs.declared.comparing.Finding.{Finding}
 use Rattle.compare.specs.declared.faults.CompareFault.{CompareFault}
+use Rattle.compare.specs.declared.faults.CompareFault.TheVariants.{Row as NoRow}
+use Rattle.compare.specs.declared.faults.Side.{Side}
+use Rattle.compare.specs.declared.faults.Side.TheVariants.{Ours, Theirs}
+use Rattle.verdicts.specs.declared.faults.RowFault.TheVariants.{Outside}
 
-pub refused : (ours theirs : List ℕ) (p q : ℕ) (buffer : List ℕ) (r : Result Finding CompareFault) (f : CompareFault) → (is_err r ≡ true) × IsErrAnd r (λ g. g ≡ f) → Faulty ours theirs p q f → Refused ours theirs p q buffer buffer r
-refused ours theirs p q buffer (Ok v) f (is, _) faulty = never (cc)
-refused ours theirs p q buffer (Err g) f (_, by) faulty = (f, faulty, ap Err by, refl)
+-- a fault that is passed up, of the first layer that refuses
+pub refused : {x : Asked} {buffer : List ℕ} {r : Result Finding CompareFault} {f e : CompareFault} → (is_err r ≡ true) × IsErrAnd r (λ g. g ≡ f) → f ≡ e → Refusable x e → ((g : CompareFault) → Refusable x g → (report e).layer ≤ (report g).layer) → Refused x buffer buffer r
+refused {r = Ok v} (is, _) same h first = never (cc)
+refused {r = Err g} {f} {e} (_, by) same h first = (e, record { refused = h; first = first }, ap Err (by ∙ same), refl)
 
-pub facing_same : (t : ℕ) (b : List Row) → t ≡ 0 → b ≡ facing t b
-facing_same t b e = sym (cond-true (eqb t 0) b (map turn b) (eq-eqb t 0 e))
+-- theirs that face ours are as many, and admitted if they are
+pub length_facing : (t : ℕ) (b : List Row) → length (facing t b) ≡ length b
+length_facing t b = cond_both (eqb t 0) b (map turn b) (λ y. length y ≡ length b) (λ _. refl) (λ _. length-map b turn)
 
-pub facing_turned : (t : ℕ) (b : List Row) → (t ≡ 0 → ⊥) → map turn b ≡ facing t b
-facing_turned t b ne = ⊎_elim (λ on. absurd (ne (eqb-true t 0 on))) (λ off. sym (cond-false (eqb t 0) b (map turn b) off)) (cases_Bool (eqb t 0))
+pub found_at : {S T : List Row} {p q v w : ℕ} → S ≡ T → p ≡ v → q ≡ w → (before after : List ℕ) (r : Result Finding CompareFault) → Found S p q before after r → Found T v w before after r
+found_at table first second before after r h = rw (← table, ← first, ← second) h
 
-module _ (a b : List Row) (j : Joinable a b) where
-  pub join_admitted : Admitted (joined a b)
-  join_admitted = joined_is_admitted a b j.ours_admitted j.theirs_admitted j.few
+pub outside_row : {x : Asked} {a b : List Row} → Read x a b → (n m : ℕ) → n ≡ length a → m ≡ length b → (side : Side) → OutsideOf n m x.p x.q side → Refusable x (NoRow side Outside)
+outside_row r n m own other Ours out = our_row r (omega arith)
+outside_row r n m own other Theirs (within, out) = their_row r (omega arith) (omega arith)
 
-  pub turned_admitted : Admitted (joined a (map turn b))
-  turned_admitted = let few = j.few in let same = length-map b turn in joined_is_admitted a (map turn b) j.ours_admitted (turned_is_admitted b j.theirs_admitted) (omega arith)
-
-  module _ (p q x y : ℕ) (at : OfTables a b p q × (x ≡ p) × (y ≡ length a + q)) where
-    -- in the table of ours and of theirs as they are, or of others with as many rows
-    pub in_table : (b' : List Row) → length b' ≡ length b → InTable (joined a b') x y
-    in_table b' same =
-        let (rows, ex, ey) = at in
-        let first = rows.first in
-        let second = rows.second in
-        let few = j.few in
-        let long = length_joined a b' (omega arith) in
-        (omega arith, omega arith)
-
-    pub settled : (ours theirs : List ℕ) → Read ours theirs a b → (t : ℕ) (b' : List Row) → b' ≡ facing t b → (before after : List ℕ) (r : Result Finding CompareFault) → Found (joined a b') x y before after r → Settled ours theirs p q t before after r
-    settled ours theirs read t b' same before after r found =
-        let (rows, ex, ey) = at in (
-          a,
-          b,
-          record { read = read; joinable = j; rows = rows },
-          subst (λ z. Found (joined a z) p (length a + q) before after r) same (subst (λ z. Found (joined a b') p z before after r) ey (subst (λ z. Found (joined a b') z y before after r) ex found)),
-        )
+pub together_admitted : {x : Asked} {a b : List Row} → Comparable x a b → Admitted (together x a b)
+together_admitted {x} {a} {b} c =
+    joined_is_admitted a (facing x.t b) c.ours_admitted
+    (cond_both (eqb x.t 0) b (map turn b) Admitted (λ _. c.theirs_admitted) (λ _. turned_is_admitted b c.theirs_admitted)) (omega (arith, c.few, length_facing x.t b))

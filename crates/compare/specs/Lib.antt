@@ -1,3 +1,5 @@
+pub mod Questions
+pub mod Facing
 pub mod Reports
 pub mod Reasons
 pub mod Comparing

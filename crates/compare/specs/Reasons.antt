@@ -1,4 +1,4 @@
--- Which fault a question about two row texts has, the earlier layer first, and what can be compared if it has none. Assumes nothing.
+-- Which fault a question has, and what can be compared if it has none. Assumes nothing.
 use Rattle.std.specs.Prelude.{◌≡◌, ℕ, ◌+◌, ◌<◌, ◌≤◌, cond, List, map, length, ◌==◌}
 use Rattle.forms.specs.Limits.{max_rows}
 use Rattle.forms.specs.Refusals.Outcome.{refuses, gives}
@@ -10,71 +10,61 @@ use Rattle.texts.specs.declared.TextFault.{TextFault}
 use Rattle.relation.specs.Admission.{Admitted, Finds}
 use Rattle.relation.specs.Faults.{admission_refusal}
 use Rattle.relation.specs.declared.AdmissionFault.{AdmissionFault}
-use Rattle.book.specs.declared.types.BookFault.TheVariants.{RowOutside}
-use Rattle.compare.specs.Reports.{Report, report}
+use Rattle.verdicts.specs.declared.faults.RowFault.TheVariants.{Outside}
+use Rattle.compare.specs.Questions.{Asked}
+use Rattle.compare.specs.Reports.{report}
 use Rattle.compare.specs.declared.faults.CompareFault.{CompareFault}
-use Rattle.compare.specs.declared.faults.CompareFault.TheVariants.{Text, Admission, Joining, Asking}
+use Rattle.compare.specs.declared.faults.CompareFault.TheVariants.{Text, Admission, Joining, Row as NoRow}
 use Rattle.compare.specs.declared.faults.JoinFault.TheVariants.{TooManyRows}
 use Rattle.compare.specs.declared.faults.Side.TheVariants.{Ours, Theirs}
 
 -- our text means the rows a, and theirs the rows b
-pub record Read (ours theirs : List ℕ) (a b : List Row) : Type 0 where
-  pub ours_read : Judged ours (gives a)
-  pub theirs_read : Judged theirs (gives b)
+pub record Read (x : Asked) (a b : List Row) : Type 0 where
+  pub ours_read : Judged x.ours (gives a)
+  pub theirs_read : Judged x.theirs (gives b)
 
--- the tables are admitted and can be joined
-pub record Joinable (a b : List Row) : Type 0 where
+-- What each of the layers 1 to 6 refuses, whatever the others do. Layer 7 is met only where the answer is no (Comparing).
+pub data Refusable (x : Asked) : CompareFault → Type 0 where
+  -- layers 1 and 2: a text is refused
+  our_text : {e : TextFault} → Judged x.ours (refuses (text_refusal e)) → Refusable x (Text Ours e)
+  their_text : {e : TextFault} → Judged x.theirs (refuses (text_refusal e)) → Refusable x (Text Theirs e)
+  -- layers 3 and 4: a table is not admitted
+  our_table : {a : List Row} {e : AdmissionFault} → Judged x.ours (gives a) → Finds a (admission_refusal e) → Refusable x (Admission Ours e)
+  their_table : {b : List Row} {e : AdmissionFault} → Judged x.theirs (gives b) → Finds b (admission_refusal e) → Refusable x (Admission Theirs e)
+  -- layer 5: the tables have too many rows together
+  too_many : {a b : List Row} → Read x a b → max_rows < length a + length b → Refusable x (Joining TooManyRows)
+  -- layer 6: p is no row of ours, or else q is none of theirs
+  our_row : {a b : List Row} → Read x a b → length a ≤ x.p → Refusable x (NoRow Ours Outside)
+  their_row : {a b : List Row} → Read x a b → x.p < length a → length b ≤ x.q → Refusable x (NoRow Theirs Outside)
+
+-- The first fault: one of the first layer that refuses.
+pub record Faulty (x : Asked) (e : CompareFault) : Type 0 where
+  pub refused : Refusable x e
+  pub first : (f : CompareFault) → Refusable x f → (report e).layer ≤ (report f).layer
+
+-- No layer refuses: the texts mean admitted tables that can be joined, and p and q are rows of them.
+pub record Comparable (x : Asked) (a b : List Row) : Type 0 where
+  pub read : Read x a b
   pub ours_admitted : Admitted a
   pub theirs_admitted : Admitted b
   pub few : length a + length b ≤ max_rows
+  pub first : x.p < length a
+  pub second : x.q < length b
 
--- p is a row of ours, and q one of theirs
-pub record OfTables (a b : List Row) (p q : ℕ) : Type 0 where
-  pub first : p < length a
-  pub second : q < length b
-
--- Layers 1 and 2: a text is refused.
-pub data TextsFail (ours theirs : List ℕ) : CompareFault → Type 0 where
-  our_text : {e : TextFault} → Judged ours (refuses (text_refusal e)) → TextsFail ours theirs (Text Ours e)
-  their_text : {a : List Row} {e : TextFault} → Judged ours (gives a) → Judged theirs (refuses (text_refusal e)) → TextsFail ours theirs (Text Theirs e)
-
--- Layers 3 to 5: a table is not admitted, or they have too many rows together.
-pub data TablesFail (a b : List Row) : CompareFault → Type 0 where
-  our_table : {e : AdmissionFault} → Finds a (admission_refusal e) → TablesFail a b (Admission Ours e)
-  their_table : {e : AdmissionFault} → Admitted a → Finds b (admission_refusal e) → TablesFail a b (Admission Theirs e)
-  too_many : Admitted a → Admitted b → max_rows < length a + length b → TablesFail a b (Joining TooManyRows)
-
--- Layer 6: p is no row of ours, or else q is none of theirs.
-pub data RowsFail (a b : List Row) (p q : ℕ) : CompareFault → Type 0 where
-  first_outside : length a ≤ p → RowsFail a b p q (Asking Ours RowOutside)
-  second_outside : p < length a → length b ≤ q → RowsFail a b p q (Asking Theirs RowOutside)
-
--- The first fault that a layer finds.
-pub data Faulty (ours theirs : List ℕ) (p q : ℕ) : CompareFault → Type 0 where
-  by_text : {e : CompareFault} → TextsFail ours theirs e → Faulty ours theirs p q e
-  by_table : {a b : List Row} {e : CompareFault} → Read ours theirs a b → TablesFail a b e → Faulty ours theirs p q e
-  by_row : {a b : List Row} {e : CompareFault} → Read ours theirs a b → Joinable a b → RowsFail a b p q e → Faulty ours theirs p q e
-
--- No layer finds one.
-pub record Comparable (ours theirs : List ℕ) (p q : ℕ) (a b : List Row) : Type 0 where
-  pub read : Read ours theirs a b
-  pub joinable : Joinable a b
-  pub rows : OfTables a b p q
-
--- A question has one report at most, and none if it can be answered; and what the texts mean is one.
+-- A question has one first fault at most, and none if it can be answered; and what the texts mean is one.
 abbrev pub OneFault : Type 0
-OneFault = (ours theirs : List ℕ) (p q : ℕ) (e f : CompareFault) → Faulty ours theirs p q e → Faulty ours theirs p q f → ◌≡◌ {A = Report} (report f) (report e)
+OneFault = (x : Asked) (e f : CompareFault) → Faulty x e → Faulty x f → f ≡ e
 
 abbrev pub FaultOrAnswer : Type 0
-FaultOrAnswer = (ours theirs : List ℕ) (p q : ℕ) (e : CompareFault) (a b : List Row) → Faulty ours theirs p q e → Comparable ours theirs p q a b → ⊥
+FaultOrAnswer = (x : Asked) (e : CompareFault) (a b : List Row) → Faulty x e → Comparable x a b → ⊥
 
 abbrev pub OneMeaning : Type 0
-OneMeaning = (ours theirs : List ℕ) (a b c d : List Row) → Read ours theirs a b → Read ours theirs c d → (c ≡ a) × (d ≡ b)
+OneMeaning = (x : Asked) (a b c d : List Row) → Read x a b → Read x c d → (c ≡ a) × (d ≡ b)
 
 -- theirs as they are if t is 0, and turned if not
 abbrev pub facing : ℕ → List Row → List Row
 facing t rows = cond (t == 0) rows (map turn rows)
 
 -- the one table of ours and theirs
-abbrev pub together : List Row → List Row → ℕ → List Row
-together a b t = joined a (facing t b)
+abbrev pub together : Asked → List Row → List Row → List Row
+together x a b = joined a (facing x.t b)

@@ -4,6 +4,7 @@ use Rattle.forms.specs.Refusals.{Refusal, number, values}
 use Rattle.forms.specs.Refusals.Refusal.{refusal}
 use Rattle.texts.specs.Faults.{text_refusal}
 use Rattle.relation.specs.Faults.{admission_refusal}
+use Rattle.verdicts.specs.Faults.{row_refusal}
 use Rattle.book.specs.Faults.{book_refusal}
 use Rattle.documents.specs.Faults.{write_refusal}
 use Rattle.compare.specs.declared.faults.Side.{Side}
@@ -11,7 +12,7 @@ use Rattle.compare.specs.declared.faults.Side.TheVariants.{Ours, Theirs}
 use Rattle.compare.specs.declared.faults.JoinFault.{JoinFault}
 use Rattle.compare.specs.declared.faults.JoinFault.TheVariants.{TooManyRows}
 use Rattle.compare.specs.declared.faults.CompareFault.{CompareFault}
-use Rattle.compare.specs.declared.faults.CompareFault.TheVariants.{Text, Admission, Joining, Asking, Writing}
+use Rattle.compare.specs.declared.faults.CompareFault.TheVariants.{Text, Admission, Joining, Row, Asking, Writing}
 
 abbrev pub join_refusal : JoinFault → Refusal
 join_refusal TooManyRows = refusal 10 []
@@ -35,12 +36,13 @@ place_by (line ∷ (field ∷ more)) = 4 * line + field
 abbrev pub told : ℕ → Refusal → Report
 told layer e = record { layer = layer; code = number e; place = place_by (values e) }
 
--- A text's fault is at its line and field, admission's at its row; the book's is at 1 if it is by the second row alone, else at 0.
+-- A text's fault is at its line and field, admission's at its row; the book's is at 1 if it is by the row of theirs, else at 0.
 abbrev pub report : CompareFault → Report
 report (Text side e) = told (1 + which side) (text_refusal e)
 report (Admission side e) = told (3 + which side) (admission_refusal e)
 report (Joining e) = told 5 (join_refusal e)
-report (Asking side e) = record { layer = 6; code = number (book_refusal e); place = which side }
+report (Row side e) = record { layer = 6; code = number (row_refusal e); place = which side }
+report (Asking e) = record { layer = 6; code = number (book_refusal e); place = 0 }
 report (Writing e) = told 7 (write_refusal e)
 
 -- no is told with the length of an order's text as its place

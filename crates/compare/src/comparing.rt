@@ -1,45 +1,45 @@
 // The layers of a comparison, one after another.
-ghost use Rattle.std.specs.Prelude.{◌≡◌, ◌+◌, ◌^◌, ◌<◌, ◌⊎◌, length, MatchResult};
+ghost use Rattle.std.specs.Prelude.{◌≡◌, ◌+◌, ◌<◌, ◌≤◌, ◌⊎◌, length, MatchResult};
+ghost use Rattle.forms.specs.Limits.{max_rows};
 ghost use Rattle.forms.specs.Refusals.Outcome.{refuses, gives};
 ghost use Rattle.texts.specs.Calls.{text_rows};
 ghost use Rattle.texts.specs.Faults.{text_refusal};
 ghost use Rattle.texts.specs.RowText.{Judged};
-ghost use Rattle.texts.specs.declared.TextFault.{TextFault};
 ghost use Rattle.relation.specs.Admission.{Admitted, Finds};
 ghost use Rattle.relation.specs.Faults.{admission_refusal};
-ghost use Rattle.relation.specs.declared.AdmissionFault.{AdmissionFault};
-ghost use Rattle.book.specs.Answers.{InTable};
-ghost use Rattle.compare.specs.Comparing.{answer, Found, Refused, Settled};
-ghost use Rattle.compare.specs.Layers.{HeldNo};
-ghost use Rattle.compare.specs.declared.faults.CompareFault.TheVariants.{Text, Admission};
-ghost use Rattle.compare.specs.Reasons.{Read, Joinable, OfTables, TextsFail, TablesFail, RowsFail};
+ghost use Rattle.verdicts.specs.Pairs.{InTable};
+ghost use Rattle.compare.specs.Comparing.{Found, Refused, Settled, Tells};
+ghost use Rattle.compare.specs.Layers.{HeldNo, OutsideOf};
+ghost use Rattle.compare.specs.Questions.{asked};
 
-use super::faults::{CompareFault, JoinFault, Side};
+use super::facing::Facing;
+use super::faults::{CompareFault, JoinFault, Side, SideFault};
+use super::questions::Question;
 use book::Book;
-use book::types::{BookFault, Verdict};
+use book::types::Verdict;
 use documents::nodes::{MAX_NODES, Node};
 use documents::writer::write_document;
-use forms::makes::{Joined, Turned};
+use forms::makes::Joined;
 use forms::{FormSource, MAX_ROWS};
+use relation::AdmissionFault;
 use relation::admission::admit;
 use relation::analysis::Analysis;
-use texts::RowText;
+use texts::{RowText, TextFault};
+use verdicts::faults::RowFault;
 
-// What is found of two rows.
-// As it is: an `Option<usize>` would read `None` for the answer yes.
+/// What is found of two rows.
+// `Option<u16>` would do too, but there a reader takes `None` for a no.
 #[derive(Clone, Copy, PartialEq, Eq, Debug)]
 pub enum Finding {
-    // every order that fits the first fits the second
+    /// every order that fits the first fits the second
     Yes,
-    // an order fits the first and not the second; its text has this length
-    No { length: usize },
+    /// an order fits the first and not the second; its text has this length, in bytes
+    No { length: u16 },
 }
 
 // The number that says what is found, or which fault.
-// As it is: a program in C takes one number.
 pub(crate) fn number(found: Result<Finding, CompareFault>) -> u64
-    requires { answer found < 2 ^ 64 }
-    ensures { result ≡ answer found }
+    ensures { Tells result found }
 {
     match found {
         Ok(Finding::Yes) => 0,
@@ -48,59 +48,62 @@ pub(crate) fn number(found: Result<Finding, CompareFault>) -> u64
     }
 }
 
-// The rows that a text spells.
-fn read(side: Side, text: &[u8]) -> Result<RowText, CompareFault>
-    ensures { MatchResult result (λ t. Judged text.now (gives (text_rows t))) (λ f. (e : TextFault) × (f ≡ Text side e) × Judged text.now (refuses (text_refusal e))) }
+// Layers 1 and 2: the rows that the text of a side spells.
+fn read(side: Side, text: &[u8]) -> Result<RowText, SideFault<TextFault>>
+    ensures { MatchResult result (λ t. Judged text.now (gives (text_rows t))) (λ e. (e.side ≡ side) × Judged text.now (refuses (text_refusal e.fault))) }
 {
-    RowText::read(text).map_err(|fault| CompareFault::Text(side, fault))
+    RowText::read(text).map_err(|fault| SideFault { side, fault })
 }
 
-// Whether a table is admitted.
-fn admitted(side: Side, table: &RowText) -> Result<Analysis, CompareFault>
-    ensures { MatchResult result (λ _. Admitted (text_rows table.now)) (λ f. (e : AdmissionFault) × (f ≡ Admission side e) × Finds (text_rows table.now) (admission_refusal e)) }
+// Layers 3 and 4: whether the table of a side is admitted.
+fn admitted(side: Side, table: &RowText) -> Result<Analysis, SideFault<AdmissionFault>>
+    ensures { MatchResult result (λ _. Admitted (text_rows table.now)) (λ e. (e.side ≡ side) × Finds (text_rows table.now) (admission_refusal e.fault)) }
 {
-    admit(table).map_err(|fault| CompareFault::Admission(side, fault))
+    admit(table).map_err(|fault| SideFault { side, fault })
 }
 
-// The rows that two texts spell.
-fn read_both(ours: &[u8], theirs: &[u8]) -> Result<(RowText, RowText), CompareFault>
-    ensures { MatchResult result (λ t. Read ours.now theirs.now (text_rows t.0) (text_rows t.1)) (TextsFail ours.now theirs.now) }
-{
-    let first = read(Side::Ours, ours)?;
-    let second = read(Side::Theirs, theirs)?;
-    Ok((first, second))
-}
-
-// Whether two tables are admitted and can be joined.
-fn check_both(first: &RowText, second: &RowText) -> Result<(), CompareFault>
-    ensures { MatchResult result (λ _. Joinable (text_rows first.now) (text_rows second.now)) (TablesFail (text_rows first.now) (text_rows second.now)) }
-{
-    admitted(Side::Ours, first)?;
-    admitted(Side::Theirs, second)?;
-    if first.count() + second.count() > MAX_ROWS {
-        return Err(JoinFault::TooManyRows.into());
-    }
-    Ok(())
-}
-
-// Row p of the first and row q of the second, as rows of the joined table.
-fn numbers(p: u64, q: u64, first: &RowText, second: &RowText) -> Result<(u8, u8), CompareFault>
-    requires { Joinable (text_rows first.now) (text_rows second.now) }
+// Layer 5: two sources side by side.
+fn join<A: FormSource + Drop, B: FormSource + Drop>(
+    first: A,
+    second: B,
+) -> Result<Joined<A, B>, JoinFault>
     ensures { MatchResult result
-        (λ pair. OfTables (text_rows first.now) (text_rows second.now) p q × (pair.0 ≡ p) × (pair.1 ≡ length (text_rows first.now) + q))
-        (RowsFail (text_rows first.now) (text_rows second.now) p q) }
+        (λ s. (s.first ≡ first) × (s.second ≡ second) × (length (A.FormSource.rows first) + length (B.FormSource.rows second) ≤ max_rows))
+        (λ e. (e ≡ JoinFault.TooManyRows) × (max_rows < length (A.FormSource.rows first) + length (B.FormSource.rows second))) }
 {
-    let count = first.count() as u64;
-    if p >= count {
-        return Err(CompareFault::Asking(Side::Ours, BookFault::RowOutside));
+    if first.count() + second.count() > MAX_ROWS {
+        return Err(JoinFault::TooManyRows);
     }
-    if q >= second.count() as u64 {
-        return Err(CompareFault::Asking(Side::Theirs, BookFault::RowOutside));
-    }
-    Ok((p as u8, (count + q) as u8))
+    Ok(Joined { first, second })
 }
 
-// Writes an order that fits the first row and not the second, of a pair that an open book holds as no.
+// Layer 6: a row of the first and a row of the second, as rows of the joined table.
+fn pair_of<A: FormSource, B: FormSource>(
+    joined: &Joined<A, B>,
+    pair: (u64, u64),
+) -> Result<(u8, u8), SideFault<RowFault>>
+    ensures { MatchResult result
+        (λ found. (pair.0 < length (A.FormSource.rows joined.now.first)) × (pair.1 < length (B.FormSource.rows joined.now.second)) × (found.0 ≡ pair.0) × (found.1 ≡ length (A.FormSource.rows joined.now.first) + pair.1))
+        (λ e. (e.fault ≡ RowFault.Outside) × OutsideOf (length (A.FormSource.rows joined.now.first)) (length (B.FormSource.rows joined.now.second)) pair.0 pair.1 e.side) }
+{
+    let own = joined.first.count() as u64;
+    if pair.0 >= own {
+        return Err(SideFault {
+            side: Side::Ours,
+            fault: RowFault::Outside,
+        });
+    }
+    if pair.1 >= joined.second.count() as u64 {
+        return Err(SideFault {
+            side: Side::Theirs,
+            fault: RowFault::Outside,
+        });
+    }
+    Ok((pair.0 as u8, (own + pair.1) as u8))
+}
+
+// Shows an order that fits the first row and not the second, of a pair that an open book holds as no, and writes it as
+// text: the end of layer 6, and layer 7. The nodes are here, since a yes needs none of their stack.
 fn write_order<S: FormSource>(
     book: &Book<S>,
     pair: (u8, u8),
@@ -110,9 +113,11 @@ fn write_order<S: FormSource>(
     ensures { Found (S.FormSource.rows book.now.source) pair.0 pair.1 buffer.old buffer.new result }
 {
     let mut nodes = [Node::Void; MAX_NODES];
-    let count = book.show(pair, &mut nodes).unwrap();
+    let count = book.show(pair, &mut nodes)?;
     let length = write_document(&nodes[..count], count - 1, buffer)?;
-    Ok(Finding::No { length })
+    Ok(Finding::No {
+        length: length as u16,
+    })
 }
 
 // What is found of two rows of an admitted table.
@@ -126,32 +131,22 @@ fn ask<S: FormSource + Drop>(
     ensures { Found (S.FormSource.rows source) pair.0 pair.1 buffer.old buffer.new result }
 {
     let mut book = Book::new(source);
-    match book.ask(pair).unwrap() {
+    match book.ask(pair)? {
         (Verdict::Yes, _) => Ok(Finding::Yes),
         (Verdict::No, _) => write_order(&book, pair, buffer),
     }
 }
 
-// What is found of row p of ours and row q of theirs, which are turned unless t is 0.
-pub(crate) fn compared(
-    ours: &[u8],
-    theirs: &[u8],
-    p: u64,
-    q: u64,
-    t: u64,
-    buffer: &mut [u8],
-) -> Result<Finding, CompareFault>
-    ensures { Refused ours.now theirs.now p q buffer.old buffer.new result ⊎ Settled ours.now theirs.now p q t buffer.old buffer.new result }
+// What is found of a question. Each layer's own fault passes up by `?`, in the order of the layers: callers rely on
+// being told the first fault, and a layer that is added is a line here and a `From` in `faults`.
+pub(crate) fn compared(question: Question, buffer: &mut [u8]) -> Result<Finding, CompareFault>
+    ensures { Refused (asked question.entry) buffer.old buffer.new result ⊎ Settled (asked question.entry) buffer.old buffer.new result }
 {
-    let (first, second) = read_both(ours, theirs)?;
-    check_both(&first, &second)?;
-    let pair = numbers(p, q, &first, &second)?;
-    let turned = t != 0;
-    // As it is: two arms with one call, since the source in each is of another type.
-    if turned {
-        let second = Turned { source: second };
-        ask(Joined { first, second }, pair, buffer)
-    } else {
-        ask(Joined { first, second }, pair, buffer)
-    }
+    let ours = read(Side::Ours, question.ours)?;
+    let theirs = read(Side::Theirs, question.theirs)?;
+    admitted(Side::Ours, &ours)?;
+    admitted(Side::Theirs, &theirs)?;
+    let joined = join(ours, Facing::of(question.t, theirs))?;
+    let pair = pair_of(&joined, (question.p, question.q))?;
+    ask(joined, pair, buffer)
 }

@@ -1,41 +1,72 @@
 // Why a question is refused: the layer that refuses it, the fault's number, and where it lies.
-ghost use Rattle.std.specs.Prelude.{◌≡◌, ◌^◌, ◌<◌};
-ghost use Rattle.compare.specs.declared.faults.CompareFault.TheVariants.{Joining, Writing};
-ghost use Rattle.compare.specs.Reports.{which, join_refusal, report, packed as packed-number};
+ghost use Rattle.std.specs.Prelude.{◌≡◌};
+ghost use Rattle.compare.specs.declared.faults.CompareFault.TheVariants.{Text, Admission, Joining, Row, Asking, Writing};
+ghost use Rattle.compare.specs.Reports.{which, join_refusal, report, Says};
 
 use book::types::BookFault;
 use documents::faults::WriteFault;
 use forms::refusals::Refused;
 use relation::AdmissionFault;
 use texts::TextFault;
+use verdicts::faults::RowFault;
 
-// The two tables: the caller's own, and the one that it is compared with. The first row asked about is of ours, the second of theirs.
+/// The two tables: the caller's own, and the one that it is compared with.
+///
+/// The first row asked about is of ours, the second of theirs.
 #[derive(Clone, Copy, PartialEq, Eq, Debug)]
 pub enum Side {
     Ours,
     Theirs,
 }
 
-// Why two tables are not joined.
+/// A fault of one of the two tables, with the side whose table it is.
+#[derive(Clone, Copy, PartialEq, Eq, Debug)]
+pub struct SideFault<F> {
+    pub side: Side,
+    pub fault: F,
+}
+
+/// Why two tables are not joined.
 #[derive(Clone, Copy, PartialEq, Eq, Debug)]
 pub enum JoinFault {
-    // they have more rows together than a table has
+    /// 10: they have more rows together than a table has
     TooManyRows,
 }
 
-// Why a question is refused.
+/// Why a question is refused. `layer`, `code` and `place` say it in numbers.
+///
+/// Each layer of a comparison has a fault of its own, which passes up by `?` into a case here: callers read from it the
+/// layer, the number and the place of the first fault.
 #[derive(Clone, Copy, PartialEq, Eq, Debug)]
 pub enum CompareFault {
-    // the text of one of the tables is refused
+    /// layers 1 and 2: the text of our table is refused, or of theirs
     Text(Side, TextFault),
-    // one of the tables is not admitted
+    /// layers 3 and 4: our table is not admitted, or theirs is not
     Admission(Side, AdmissionFault),
-    // the tables are not joined
+    /// layer 5: the tables are not joined
     Joining(JoinFault),
-    // the book refuses the question, by the row that is of this side
-    Asking(Side, BookFault),
-    // the order is not written
+    /// layer 6: the row that is asked about is not one of this side's table
+    Row(Side, RowFault),
+    /// layer 6: the book refuses a question about two of its rows, which no comparison meets
+    Asking(BookFault),
+    /// layer 7: the order that shows a no is not written
     Writing(WriteFault),
+}
+
+impl From<SideFault<TextFault>> for CompareFault {
+    ghost from_gives = { λ e f. f ≡ Text e.side e.fault };
+
+    fn from(e: SideFault<TextFault>) -> CompareFault {
+        CompareFault::Text(e.side, e.fault)
+    }
+}
+
+impl From<SideFault<AdmissionFault>> for CompareFault {
+    ghost from_gives = { λ e f. f ≡ Admission e.side e.fault };
+
+    fn from(e: SideFault<AdmissionFault>) -> CompareFault {
+        CompareFault::Admission(e.side, e.fault)
+    }
 }
 
 impl From<JoinFault> for CompareFault {
@@ -43,6 +74,22 @@ impl From<JoinFault> for CompareFault {
 
     fn from(e: JoinFault) -> CompareFault {
         CompareFault::Joining(e)
+    }
+}
+
+impl From<SideFault<RowFault>> for CompareFault {
+    ghost from_gives = { λ e f. f ≡ Row e.side e.fault };
+
+    fn from(e: SideFault<RowFault>) -> CompareFault {
+        CompareFault::Row(e.side, e.fault)
+    }
+}
+
+impl From<BookFault> for CompareFault {
+    ghost from_gives = { λ e f. f ≡ Asking e };
+
+    fn from(e: BookFault) -> CompareFault {
+        CompareFault::Asking(e)
     }
 }
 
@@ -54,11 +101,11 @@ impl From<WriteFault> for CompareFault {
     }
 }
 
-// 0 for ours, 1 for theirs.
-impl From<Side> for u64 {
+/// 0 for ours, 1 for theirs.
+impl From<Side> for u8 {
     ghost from_gives = { λ side n. n ≡ which side };
 
-    fn from(side: Side) -> u64 {
+    fn from(side: Side) -> u8 {
         match side {
             Side::Ours => 0,
             Side::Theirs => 1,
@@ -77,20 +124,20 @@ impl Refused for JoinFault {
 }
 
 impl CompareFault {
-    // The layer that refuses, from 1 to 7.
-    pub fn layer(&self) -> u64
+    /// The layer that refuses, from 1 to 7.
+    pub fn layer(&self) -> u8
         ensures { result ≡ (report self.now).layer }
     {
         match self {
-            CompareFault::Text(side, _) => 1 + u64::from(*side),
-            CompareFault::Admission(side, _) => 3 + u64::from(*side),
+            CompareFault::Text(side, _) => 1 + u8::from(*side),
+            CompareFault::Admission(side, _) => 3 + u8::from(*side),
             CompareFault::Joining(_) => 5,
-            CompareFault::Asking(_, _) => 6,
+            CompareFault::Row(_, _) | CompareFault::Asking(_) => 6,
             CompareFault::Writing(_) => 7,
         }
     }
 
-    // The fault's number within its layer.
+    /// The fault's number within its layer.
     pub fn code(&self) -> u8
         ensures { result ≡ (report self.now).code }
     {
@@ -98,33 +145,32 @@ impl CompareFault {
             CompareFault::Text(_, fault) => fault.number(),
             CompareFault::Admission(_, fault) => fault.number(),
             CompareFault::Joining(fault) => fault.number(),
-            CompareFault::Asking(_, fault) => fault.number(),
+            CompareFault::Row(_, fault) => fault.number(),
+            CompareFault::Asking(fault) => fault.number(),
             CompareFault::Writing(fault) => fault.number(),
         }
     }
 
-    // Where the fault lies: four for each line before a field and one for each field before it; the row; the side of a row that is asked about.
-    fn place(&self) -> u64
-        requires { packed-number (report self.now) < 2 ^ 64 }
+    /// Where the fault lies: 4 × line + field for a wrong line of a text; the row for a fault of admission; 1 if only the
+    /// row of theirs is outside; the node for one that is not sound; else 0.
+    pub fn place(&self) -> u32
         ensures { result ≡ (report self.now).place }
     {
         match self {
-            CompareFault::Text(_, TextFault::WrongLine { line, field }) => 4 * *line as u64
-                + *field as u64,
-            CompareFault::Admission(_, AdmissionFault::NumberOutside { row }) => *row as u64,
-            CompareFault::Admission(_, AdmissionFault::LabelTwice { row }) => *row as u64,
-            CompareFault::Asking(side, _) => u64::from(*side),
-            CompareFault::Writing(WriteFault::Unsound { node }) => *node as u64,
+            CompareFault::Text(_, TextFault::WrongLine { line, field }) => 4 * *line as u32
+                + *field as u32,
+            CompareFault::Admission(_, AdmissionFault::NumberOutside { row }) => *row as u32,
+            CompareFault::Admission(_, AdmissionFault::LabelTwice { row }) => *row as u32,
+            CompareFault::Row(side, _) => u8::from(*side) as u32,
+            CompareFault::Writing(WriteFault::Unsound { node }) => *node as u32,
             _ => 0,
         }
     }
 
-    // All three as one number.
-    // As it is: a program in C takes one number.
-    pub(crate) fn packed(&self) -> u64
-        requires { packed-number (report self.now) < 2 ^ 64 }
-        ensures { result ≡ packed-number (report self.now) }
+    /// All three as one number, code + 256 × layer + 65,536 × place, for a program in C, which takes one number.
+    pub fn packed(&self) -> u64
+        ensures { Says result (report self.now) }
     {
-        self.code() as u64 + 256 * self.layer() + 65536 * self.place()
+        self.code() as u64 + 256 * self.layer() as u64 + 65536 * self.place() as u64
     }
 }

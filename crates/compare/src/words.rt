@@ -1,6 +1,5 @@
 // Why a question is refused, in words.
 use super::faults::{CompareFault, JoinFault, Side};
-use documents::nodes::MAX_DOCUMENT;
 use forms::MAX_ROWS;
 use forms::refusals::Refused;
 use std::error::Error;
@@ -31,19 +30,17 @@ impl Error for JoinFault {}
 impl fmt::Display for CompareFault {
     fn fmt<W: fmt::Write>(&self, f: &mut fmt::Formatter<W>) -> fmt::Result {
         let code = self.code();
-        // As it is: two arms with one text, since the fault in each is of another type.
+        // The first two have one text, but their faults are of different types, so that one arm cannot bind both.
         match self {
             CompareFault::Text(side, fault) => write!(f, "no answer: {side} table: {fault}"),
             CompareFault::Admission(side, fault) => write!(f, "no answer: {side} table: {fault}"),
             CompareFault::Joining(fault) => write!(f, "{fault}"),
-            CompareFault::Asking(side, _) => write!(
+            CompareFault::Row(side, _) => write!(
                 f,
                 "no answer ({code}): {side} table has no row with the number that was asked about"
             ),
-            CompareFault::Writing(_) => write!(
-                f,
-                "the order that shows it cannot be written ({code}): its text is longer than {MAX_DOCUMENT} bytes"
-            ),
+            CompareFault::Asking(fault) => write!(f, "no answer: {fault}"),
+            CompareFault::Writing(fault) => write!(f, "{fault}"),
         }
     }
 }

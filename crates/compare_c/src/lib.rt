@@ -6,7 +6,15 @@ ghost use Rattle.relation.specs.Sources.{JoinedIsAdmitted, TurnedIsAdmitted};
 ghost use Rattle.compare.specs.Comparing.{Compares, ZeroIsYes};
 ghost use Rattle.compare.specs.Reasons.{OneFault, FaultOrAnswer, OneMeaning};
 
-// What the library's compare answers: see crates/compare.
+use compare::questions::Question;
+
+/// What `compare::compare` answers to the question that these arguments are, in the order of its fields.
+///
+/// `ours` and `theirs` are row texts, in bytes; `p` and `q` rows of them, counted from 0; `t` is 0 for theirs as it stands.
+/// 0 is yes; 1 + 65,536 × n is no, where the buffer begins with an order's text of n bytes; any other number is
+/// code + 256 × layer + 65,536 × place of the first fault.
+// It takes numbers and byte slices and answers one packed 64-bit number, since programs in C are built against this very
+// shape: a struct or an enum here would have to be declared once more in C, and nothing would compare the two.
 #[unsafe(no_mangle)]
 pub extern "C" fn compare(
     ours: &[u8],
@@ -16,8 +24,15 @@ pub extern "C" fn compare(
     t: u64,
     buffer: &mut [u8],
 ) -> u64
-    ensures compares { Compares ours.now theirs.now p q t buffer.old buffer.new result }
+    ensures compares { Compares (record { ours = ours.now; theirs = theirs.now; p = p; q = q; t = t }) buffer.old buffer.new result }
     ensures laws { (ZeroIsYes) × ((OneFault) × ((FaultOrAnswer) × ((OneMeaning) × ((JoinedIsAdmitted) × (TurnedIsAdmitted))))) }
 {
-    compare::compare(ours, theirs, p, q, t, buffer)
+    let question = Question {
+        ours,
+        theirs,
+        p,
+        q,
+        t,
+    };
+    compare::compare(question, buffer)
 }

@@ -2,11 +2,14 @@
 use book::types::BookFault;
 use compare::comparing::Finding;
 use compare::faults::{CompareFault, JoinFault, Side};
+use compare::questions::Question;
 use compare::{compare, question};
+use documents::faults::WriteFault;
 use relation::AdmissionFault;
-use std::alloc::Global;
 use std::process::Abort;
 use std::test::Fail;
+use texts::TextFault;
+use verdicts::faults::RowFault;
 
 const ONE: &[u8] = b"V,,,\nE,0000000000000002,0,0\n";
 
@@ -18,6 +21,17 @@ const FROM: &[u8] = b"V,,,\nC,i,0,\n";
 
 const LAST: u64 = 18446744073709551615;
 
+// A question about rows p and q, without turning.
+fn about<'a>(ours: &'a [u8], theirs: &'a [u8], p: u64, q: u64) -> Question<'a> {
+    Question {
+        ours,
+        theirs,
+        p,
+        q,
+        t: 0,
+    }
+}
+
 // The answer, and that the buffer begins with the text and is as it was behind it.
 fn gives(
     rt: &impl Abort,
@@ -27,7 +41,11 @@ fn gives(
     text: &[u8],
 ) {
     let mut buffer = [7u8; 8];
-    let found = compare(tables.0, tables.1, asked.0, asked.1, asked.2, &mut buffer);
+    let asked = Question {
+        t: asked.2,
+        ..about(tables.0, tables.1, asked.0, asked.1)
+    };
+    let found = compare(asked, &mut buffer);
     assert_eq!(rt; found, number);
     assert!(rt; buffer.starts_with(text));
     assert!(rt; buffer.iter().skip(text.len()).all(|byte| *byte == 7));
@@ -105,53 +123,137 @@ fn rows_outside(rt: HostRuntime) {
 #[test]
 fn no_room(rt: HostRuntime) {
     let mut two = [7u8; 2];
-    assert_eq!(rt; compare(TWO, ONE, 1, 1, 0, &mut []), 1837);
-    assert_eq!(rt; compare(ONE, TWO, 1, 1, 0, &mut []), 0);
-    assert_eq!(rt; compare(TWO, ONE, 1, 1, 0, &mut two), 1837);
+    assert_eq!(rt; compare(about(TWO, ONE, 1, 1), &mut []), 1837);
+    assert_eq!(rt; compare(about(ONE, TWO, 1, 1), &mut []), 0);
+    assert_eq!(rt; compare(about(TWO, ONE, 1, 1), &mut two), 1837);
     assert_eq!(rt; two, [7; 2]);
     let mut three = [7u8; 3];
-    assert_eq!(rt; compare(TWO, ONE, 1, 1, 0, &mut three), 196609);
+    assert_eq!(rt; compare(about(TWO, ONE, 1, 1), &mut three), 196609);
     assert_eq!(rt; three, *b"2[]");
 }
 
 #[test]
 fn found(rt: HostRuntime) {
     let mut buffer = [7u8; 4];
-    assert_eq!(rt; question(ONE, TWO, 1, 1, 0, &mut buffer), Ok(Finding::Yes));
+    assert_eq!(rt;
+        question(about(ONE, TWO, 1, 1), &mut buffer),
+        Ok(Finding::Yes)
+    );
     assert_eq!(rt; buffer, [7; 4]);
     assert_eq!(rt;
-        question(TWO, ONE, 1, 1, 0, &mut buffer),
+        question(about(TWO, ONE, 1, 1), &mut buffer),
         Ok(Finding::No { length: 3 })
     );
     assert_eq!(rt; &buffer, b"2[]\x07");
     let fault = CompareFault::Admission(Side::Ours, AdmissionFault::NoRows);
-    assert_eq!(rt; question(b"", b"", 9, 9, 0, &mut buffer), Err(fault));
+    assert_eq!(rt; question(about(b"", b"", 9, 9), &mut buffer), Err(fault));
 }
 
-fn reads(rt: &impl Abort, alloc: Global, fault: CompareFault, words: &str) -> Result<(), Fail> {
-    let text = format!(in alloc; "{fault}")?;
-    assert_eq!(rt; text.as_str(), words);
+// In numbers: the layer, the code, the place, and all three as one.
+fn told(rt: &impl Abort, fault: CompareFault, layer: u8, code: u8, place: u32, packed: u64) {
+    assert_eq!(rt; fault.layer(), layer);
+    assert_eq!(rt; fault.code(), code);
+    assert_eq!(rt; fault.place(), place);
+    assert_eq!(rt; fault.packed(), packed);
+}
+
+#[test]
+fn numbers(rt: HostRuntime) {
+    let wrong = TextFault::WrongLine {
+        line: 255,
+        field: 255,
+    };
+    told(
+        &rt,
+        CompareFault::Text(Side::Theirs, wrong),
+        2,
+        2,
+        1275,
+        83558914,
+    );
+    told(
+        &rt,
+        CompareFault::Row(Side::Theirs, RowFault::Outside),
+        6,
+        21,
+        1,
+        67093,
+    );
+    let unsound = WriteFault::Unsound { node: 65535 };
+    told(
+        &rt,
+        CompareFault::Writing(unsound),
+        7,
+        31,
+        65535,
+        4294903583,
+    );
+}
+
+#[test]
+fn side_words(rt: HostRuntime) -> Result<(), Fail> {
+    let cases = [(Side::Ours, "our"), (Side::Theirs, "their")];
+    for (side, words) in &cases {
+        let told = format!(in rt.alloc(); "{side}")?;
+        assert_eq!(rt; told.as_str(), *words);
+    }
+    Ok(())
+}
+
+#[test]
+fn join_words(rt: HostRuntime) -> Result<(), Fail> {
+    let told = format!(in rt.alloc(); "{}", JoinFault::TooManyRows)?;
+    assert_eq!(rt;
+        told.as_str(),
+        "no answer (10): the two tables have more than 64 rows together"
+    );
     Ok(())
 }
 
 #[test]
 fn words(rt: HostRuntime) -> Result<(), Fail> {
-    reads(
-        &rt,
-        rt.alloc(),
-        CompareFault::Admission(Side::Theirs, AdmissionFault::NoRows),
-        "no answer: their table: the table is not admitted (11): it has no rows",
-    )?;
-    reads(
-        &rt,
-        rt.alloc(),
-        CompareFault::Joining(JoinFault::TooManyRows),
-        "no answer (10): the two tables have more than 64 rows together",
-    )?;
-    reads(
-        &rt,
-        rt.alloc(),
-        CompareFault::Asking(Side::Ours, BookFault::RowOutside),
-        "no answer (21): our table has no row with the number that was asked about",
-    )
+    let wrong = TextFault::WrongLine { line: 3, field: 0 };
+    let cases = [
+        (
+            CompareFault::Text(Side::Ours, TextFault::TooLong),
+            "no answer: our table: the text is refused (1): it has more than 1,600 bytes",
+        ),
+        (
+            CompareFault::Text(Side::Theirs, wrong),
+            "no answer: their table: the text is refused (2): line 3 is wrong at field 0, the kind: V, N, C, E or U is asked for (lines and fields are counted from 0)",
+        ),
+        (
+            CompareFault::Admission(Side::Ours, AdmissionFault::LabelTwice { row: 10 }),
+            "no answer: our table: the table is not admitted (13): row 10 offers two different inhabited element rows with a common label",
+        ),
+        (
+            CompareFault::Admission(Side::Theirs, AdmissionFault::NoRows),
+            "no answer: their table: the table is not admitted (11): it has no rows",
+        ),
+        (
+            CompareFault::Joining(JoinFault::TooManyRows),
+            "no answer (10): the two tables have more than 64 rows together",
+        ),
+        (
+            CompareFault::Row(Side::Ours, RowFault::Outside),
+            "no answer (21): our table has no row with the number that was asked about",
+        ),
+        (
+            CompareFault::Row(Side::Theirs, RowFault::Outside),
+            "no answer (21): their table has no row with the number that was asked about",
+        ),
+        (
+            CompareFault::Asking(BookFault::BitOutside),
+            "no answer: refused (23): the relation has a bit that is no pair's",
+        ),
+        (
+            CompareFault::Writing(WriteFault::TooLong),
+            "the order cannot be written (45): the text is longer than the buffer, or than 32,768 bytes",
+        ),
+    ];
+    for (fault, words) in &cases {
+        let told = format!(in rt.alloc(); "{fault}")?;
+        assert_eq!(rt; told.as_str(), *words);
+    }
+    Ok(())
 }
