@@ -6,6 +6,7 @@ use super::ordering;
 use compare::comparing::Finding;
 use compare::faults::{CompareFault, Side};
 use compare::question;
+use compare::questions::Question;
 use documents::nodes::{MAX_DOCUMENT, MAX_NODES, Node};
 use forms::FormSource;
 use std::alloc::{AllocError, Global};
@@ -14,7 +15,6 @@ use std::io::Write;
 use texts::RowText;
 
 // Which rows the addresses in an order are of: ours, or theirs, whose numbers rise by the count of ours.
-// As it is: printed, since a wrapper of the nodes and the count with Display would be made at this one place.
 fn print_addresses(rt: &HostRuntime, nodes: &[Node], ours: usize) -> anyhow::Result<()> {
     for node in nodes {
         if let Node::Reference(row) = node {
@@ -52,7 +52,7 @@ fn print_grey(rt: &HostRuntime, text: &[u8], ours: usize) -> anyhow::Result<()> 
     }
 }
 
-// A row of our table and a row of theirs, to be compared.
+// A row of our table and a row of theirs, to be compared: what a question asks, with the paths of the tables.
 #[derive(Clone, Copy)]
 struct Comparison<'a> {
     ours: &'a str,
@@ -90,14 +90,20 @@ impl<'a> Comparison<'a> {
     // The answer in words.
     fn answer(&self, rt: &HostRuntime, ours: &[u8], theirs: &[u8]) -> Result<(), Fault> {
         let mut buffer = [0u8; MAX_DOCUMENT];
-        let turned = self.turned as u64;
-        match question(ours, theirs, self.p, self.q, turned, &mut buffer) {
+        let asked = Question {
+            ours,
+            theirs,
+            p: self.p,
+            q: self.q,
+            t: self.turned as u64,
+        };
+        match question(asked, &mut buffer) {
             Ok(Finding::Yes) => {
                 println!(rt; "GREEN: every order that we can write is one that they can read")?;
                 Ok(())
             }
             Ok(Finding::No { length }) => {
-                let text = buffer.get(..length).unwrap_or(&[]);
+                let text = buffer.get(..length as usize).unwrap_or(&[]);
                 print_grey(rt, text, RowText::new(ours).count())?;
                 Ok(())
             }
@@ -105,7 +111,7 @@ impl<'a> Comparison<'a> {
         }
     }
 
-    // The same of the tables in their files. Where neither can be read, it is said of both.
+    // The answer for the tables in their files. Where neither can be read, it is said of both.
     fn ask(&self, rt: &HostRuntime) -> Result<(), Fault> {
         let ours = opened(rt, self.ours, fs::read(rt, self.ours));
         let theirs = opened(rt, self.theirs, fs::read(rt, self.theirs));

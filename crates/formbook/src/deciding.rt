@@ -34,7 +34,7 @@ fn print_line(
 ) -> anyhow::Result<()> {
     print!(rt; "  {p:>2} ")?;
     for q in 0..prepared.count() as u8 {
-        let below = prepared.relates(verdicts, p, q);
+        let below = prepared.relates(verdicts, (p, q));
         print!(rt; "  {}", if below { "Y" } else { "n" })?;
     }
     println!(rt)?;

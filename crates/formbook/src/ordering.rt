@@ -6,7 +6,8 @@ use documents::reader::read_document;
 use forms::refusals::Refused;
 use std::alloc::{AllocError, Global};
 
-// The document of the last node, a line for each element and reference, what is inside an element two deeper.
+// The document of the last node, a line for each element and reference, what is inside an element two deeper. It stops at
+// the depth of what is inside, so a document whose following parts are many takes no stack for them.
 pub(crate) fn print_tree(rt: &HostRuntime, nodes: &[Node], indent: usize) -> anyhow::Result<()> {
     let mut rest = nodes;
     while let Some((node, lower)) = rest.split_last() {
@@ -33,7 +34,6 @@ pub(crate) fn print_tree(rt: &HostRuntime, nodes: &[Node], indent: usize) -> any
 }
 
 // A node of a table, without an end of line.
-// As it is: printed, since a wrapper of a number and a node with Display would be made at each call to be printed once.
 pub(crate) fn print_node(rt: &HostRuntime, k: usize, node: Node) -> anyhow::Result<()> {
     match node {
         Node::Void => print!(rt; "node {k}: void")?,
@@ -59,13 +59,14 @@ fn print_nodes(rt: &HostRuntime, nodes: &[Node]) -> anyhow::Result<()> {
 // Why a text is no order, and a caret under the place.
 pub(crate) fn explained(heap: Global, text: &str, fault: ReadFault) -> Result<String, AllocError> {
     let mut why = match fault {
-        ReadFault::Wrong { place } if place >= text.len() => {
+        ReadFault::Wrong { place } if place as usize >= text.len() => {
             let number = fault.number();
             format!(in heap; "this is no order ({number}): it ends too early, at place {place}")?
         }
         _ => format!(in heap; "{fault}")?,
     };
     if let ReadFault::Wrong { place } | ReadFault::TooDeep { place } = fault {
+        let place = place as usize;
         let caret = format!(in heap; "\n  {text}\n  {:place$}^", "")?;
         why.push_str(caret.as_str())?;
     }

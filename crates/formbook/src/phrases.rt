@@ -1,6 +1,4 @@
 // Rows and sets in words.
-// As it is: functions print them, since Display would stand at each type in another crate, or at a wrapper of this one, which
-// would have all that is said as its fields, and would be made at each call to be printed once.
 use forms::{Capability, Row};
 use sets::Members;
 

@@ -1,116 +1,221 @@
 // formbook replay: calls on a book, one a line of a script, and what it answers.
+ghost use Rattle.std.specs.Prelude.{◌≡◌, length, map, IfOk, MatchResult};
+ghost use Rattle.std.specs.Str.{trim};
+ghost use Rattle.texts.specs.Calls.{text_rows};
+ghost use Rattle.formbook.specs.Scripts.{is_call_line, call_lines, LinesSpell, Hinders, IsRun};
+
 use super::checking::{load, opened};
 use super::faults::Fault;
 use super::ordering;
 use super::scripting::{Reader, Unread, order_text};
 use super::telling::print_answer;
-use anyhow::anyhow;
+use forms::FormSource;
 use replay::exchange::{Answer, Call};
 use replay::performing::replay;
-use std::alloc::{AllocError, Global};
+use std::alloc::{AllocError, AllocFailed, Global};
 use std::fs;
 use texts::RowText;
 
-// A line of a script that is neither empty nor a comment, with its number from 1.
-#[derive(Drop)]
+// A line of a script: its number, from 0, and its text without the white space around it.
+#[derive(Clone, Copy)]
 struct Line<'a> {
     number: usize,
     text: &'a str,
 }
 
-fn call_lines<'a>(heap: Global, script: &'a str) -> Result<Vec<Line<'a>>, AllocError> {
+impl<'a> Line<'a> {
+    fn of(number: usize, line: &'a str) -> Line<'a>
+        ensures number { result.number ≡ number }
+        ensures text { result.text.now ≡ trim line.now }
+    {
+        Line {
+            number,
+            text: line.trim(),
+        }
+    }
+
+    // Whether it is no empty line and no comment.
+    fn is_call(&self) -> bool
+        ensures { result ≡ is_call_line self.now.text.now }
+    {
+        !self.text.is_empty() && !self.text.starts_with("#")
+    }
+}
+
+// A line that spells no call, and why.
+#[derive(Drop)]
+struct Mistake<'a> {
+    line: Line<'a>,
+    unread: Unread,
+}
+
+// The calls of a script and the answers to them, place by place.
+#[derive(Drop)]
+struct Played {
+    calls: Vec<Call>,
+    answers: Vec<Answer>,
+}
+
+// A line of a script, the call that it spells, and the answer to it.
+#[derive(Clone, Copy)]
+struct Entry<'a> {
+    line: &'a str,
+    call: &'a Call,
+    answer: &'a Answer,
+}
+
+// Why a script is not performed.
+#[derive(Drop)]
+enum Unplayed<'a> {
+    // these lines spell no call
+    Mistakes(Vec<Mistake<'a>>),
+    // there is not enough memory
+    NoMemory,
+}
+
+impl<'a> From<AllocError> for Unplayed<'a> {
+    ghost use Rattle.formbook.specs.declared.replaying.Unplayed.TheVariants.{NoMemory};
+
+    ghost from_gives = { λ _ e. e ≡ NoMemory };
+
+    fn from(_error: AllocError) -> Unplayed<'a> {
+        Unplayed::NoMemory
+    }
+}
+
+impl<'a, T: Drop> From<AllocFailed<T>> for Unplayed<'a> {
+    ghost use Rattle.formbook.specs.declared.replaying.Unplayed.TheVariants.{NoMemory};
+
+    ghost from_gives = { λ _ e. e ≡ NoMemory };
+
+    fn from(_error: AllocFailed<T>) -> Unplayed<'a> {
+        Unplayed::NoMemory
+    }
+}
+
+// The lines of a script that are calls.
+fn lines_of<'a>(heap: Global, script: &'a str) -> Result<Vec<Line<'a>>, AllocError>
+    ensures { IfOk result (λ v. map (λ line. (line.number, line.text.now)) v.items ≡ call_lines script.now) }
+{
     script
         .lines()
         .enumerate()
-        .map(|(k, line)| Line {
-            number: k.saturating_add(1),
-            text: line.trim(),
-        })
-        .filter(|line| !line.text.is_empty() && !line.text.starts_with("#"))
+        .map(|(number, line)| Line::of(number, line))
+        .filter(|line| line.is_call())
         .collect(heap)
 }
 
-// A script by its path: its lines, and what reads them.
-#[derive(Drop)]
-struct Script<'a> {
-    path: &'a str,
-    lines: Vec<Line<'a>>,
-    reader: Reader,
-}
-
-impl<'a> Script<'a> {
-    // Why a line cannot be read.
-    fn print_unread(&self, rt: &HostRuntime, line: &Line, unread: Unread) -> anyhow::Result<()> {
-        let path = self.path;
-        let number = line.number;
-        let text = line.text;
-        println!(rt; "{path}: line {number} is no call: {text}")?;
-        if let Unread::Order(fault) = unread {
-            let order = order_text(text.split_whitespace().nth(1).unwrap_or(""));
-            let why = ordering::explained(rt.alloc(), order, fault)?;
-            println!(rt; "{why}")?;
-            return Ok(());
+// The calls that lines spell.
+fn spelled<'a>(reader: &Reader, lines: &[Line<'a>]) -> Result<Vec<Call>, Unplayed<'a>>
+    ensures { MatchResult result (λ v. LinesSpell reader.now.count lines.now v.items) (Hinders reader.now.count lines.now) }
+{
+    let mut calls = Vec::new(reader.heap);
+    let mut mistakes = Vec::new(reader.heap);
+    for line in lines {
+        match reader.read_call(line.text) {
+            Ok(call) => calls.push(call)?,
+            Err(unread) => mistakes.push(Mistake {
+                line: *line,
+                unread,
+            })?,
         }
-        println!(rt; "  {unread}")?;
-        Ok(())
     }
-
-    // All its calls; where lines cannot be read, each is named.
-    fn calls(&self, rt: &HostRuntime) -> Result<Vec<Call>, Fault> {
-        let mut calls = Vec::new(rt.alloc());
-        let mut all = Ok(());
-        for line in &self.lines {
-            match self.reader.read_call(line.text) {
-                Ok(call) => calls.push(call)?,
-                Err(unread) => {
-                    self.print_unread(rt, line, unread)?;
-                    all = Err(Fault::Refused(format!(in rt.alloc(); "nothing was performed")?));
-                }
-            }
-        }
-        all?;
+    if mistakes.is_empty() {
         Ok(calls)
-    }
-
-    // Each line and its answer. A line is read again, since performing took its call.
-    fn print_answers(&self, rt: &HostRuntime, answers: &[Answer]) -> Result<(), Fault> {
-        let mut all = Ok(());
-        for (line, answer) in self.lines.iter().zip(answers) {
-            let text = line.text;
-            println!(rt; "{text}")?;
-            if let Ok(call) = self.reader.read_call(text) {
-                if let Err(fault) = print_answer(rt, &call, answer, self.reader.count) {
-                    fault.say(rt)?;
-                    all = Err(Fault::Said);
-                }
-            }
-        }
-        all
-    }
-
-    // Performs its calls on a book over the table.
-    fn perform(&self, rt: &HostRuntime, table: RowText) -> Result<(), Fault> {
-        let calls = self.calls(rt)?;
-        let room = Vec::with_capacity(rt.alloc(), calls.len())?;
-        match replay(table, calls, room) {
-            Some(answers) => self.print_answers(rt, &answers),
-            None => Err(Fault::Failed(anyhow!("there is no room for the answers"))),
-        }
+    } else {
+        Err(Unplayed::Mistakes(mistakes))
     }
 }
 
-// A table and a script.
+// Performs the calls that lines spell on a book over a table. Performing takes the calls, so the lines are read once more.
+fn replayed<'a>(heap: Global, table: RowText, lines: &[Line<'a>]) -> Result<Played, Unplayed<'a>>
+    ensures { MatchResult result (IsRun (text_rows table) lines.now) (Hinders (length (text_rows table)) lines.now) }
+{
+    let count = table.count() as u8;
+    let reader = Reader { heap, count };
+    let calls = spelled(&reader, lines)?;
+    let room = Vec::with_capacity(heap, calls.len())?;
+    // There is room for as many answers as there are calls, which is all that replaying asks for.
+    let Ok((_book, answers)) = replay(table, calls, room) else {
+        unreachable!()
+    };
+    Ok(Played {
+        calls: spelled(&reader, lines)?,
+        answers,
+    })
+}
+
+// One entry for each line, with the call and the answer at its place.
+fn entries<'a>(
+    heap: Global,
+    lines: &[Line<'a>],
+    calls: &'a [Call],
+    answers: &'a [Answer],
+) -> Result<Vec<Entry<'a>>, AllocError>
+    requires calls { length calls.now ≡ length lines.now }
+    requires answers { length answers.now ≡ length lines.now }
+    ensures lines { IfOk result (λ v. map (λ e. e.line.now) v.items ≡ map (λ line. line.text.now) lines.now) }
+    ensures calls { IfOk result (λ v. map (λ e. e.call.now) v.items ≡ calls.now) }
+    ensures answers { IfOk result (λ v. map (λ e. e.answer.now) v.items ≡ answers.now) }
+{
+    let mut entries = Vec::new(heap);
+    for (k, line) in lines.iter().enumerate() {
+        entries.push(Entry {
+            line: line.text,
+            call: &calls[k],
+            answer: &answers[k],
+        })?;
+    }
+    Ok(entries)
+}
+
+// Why a line cannot be read.
+fn print_mistake(rt: &HostRuntime, path: &str, mistake: &Mistake) -> anyhow::Result<()> {
+    let number = mistake.line.number.saturating_add(1);
+    let text = mistake.line.text;
+    println!(rt; "{path}: line {number} is no call: {text}")?;
+    if let Unread::Order(fault) = mistake.unread {
+        let order = order_text(text.split_whitespace().nth(1).unwrap_or(""));
+        let why = ordering::explained(rt.alloc(), order, fault)?;
+        println!(rt; "{why}")?;
+        return Ok(());
+    }
+    let unread = &mistake.unread;
+    println!(rt; "  {unread}")?;
+    Ok(())
+}
+
+// Each line and its answer.
+fn print_entries(rt: &HostRuntime, entries: &[Entry], count: usize) -> Result<(), Fault> {
+    let mut all = Ok(());
+    for entry in entries {
+        let line = entry.line;
+        println!(rt; "{line}")?;
+        if let Err(fault) = print_answer(rt, entry.call, entry.answer, count) {
+            fault.say(rt)?;
+            all = Err(Fault::Said);
+        }
+    }
+    all
+}
+
+// A table and a script. Where lines cannot be read, each is named.
 pub(crate) fn replay_script(rt: &HostRuntime, table: &str, path: &str) -> Result<(), Fault> {
     let table = load(rt, table)?;
     let text = opened(rt, path, fs::read_to_string(rt, path))?;
-    let heap = rt.alloc();
-    let lines = call_lines(heap, text.as_str())?;
-    let count = table.rows().len();
-    let reader = Reader { heap, count };
-    let script = Script {
-        path,
-        lines,
-        reader,
-    };
-    script.perform(rt, table)
+    let lines = lines_of(rt.alloc(), text.as_str())?;
+    let count = table.count();
+    match replayed(rt.alloc(), table, &lines) {
+        Ok(replayed) => {
+            let entries = entries(rt.alloc(), &lines, &replayed.calls, &replayed.answers)?;
+            print_entries(rt, &entries, count)
+        }
+        Err(Unplayed::Mistakes(mistakes)) => {
+            for mistake in &mistakes {
+                print_mistake(rt, path, mistake)?;
+            }
+            Err(Fault::Refused(format!(in rt.alloc(); "nothing was performed")?))
+        }
+        Err(Unplayed::NoMemory) => Err(Fault::from(AllocError)),
+    }
 }

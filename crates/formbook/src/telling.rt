@@ -1,6 +1,4 @@
 // What a book answers to a call, in words.
-// As it is: functions print it, since a wrapper with Display for each sort of answer would have the call, the answer and the
-// count of rows as its fields, and would be made once to be printed once.
 use super::faults::Fault;
 use super::{ordering, phrases};
 use anyhow::anyhow;

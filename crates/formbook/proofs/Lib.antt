@@ -1,0 +1,4 @@
+pub mod Answered
+pub mod Loops
+pub mod Pairs
+pub mod WordsOf
