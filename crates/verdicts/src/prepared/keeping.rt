@@ -40,16 +40,16 @@ impl<'a> Within<'a> {
     }
 
     // Whether a channel is below another: both is at most in and at most out, payloads of in channels compare forward, those of out channels backward, and of both both ways.
-    // The rule stands here as one match of the two capabilities, a guard for each payload direction, so that it is read, and checked against the rules, at one glance. The pairs that `naming` lists say what a pair leans on, and do not decide it.
+    // The rule stands here as one match of the two capabilities, a guard for each direction of the payloads s and t, so that it is read, and checked against the rules, at one glance. The pairs that `naming` lists say what a pair leans on, and do not decide it.
     fn channel_below(&self, c: (Capability, u8), d: (Capability, u8)) -> bool
         ensures { result ≡ capable c.0 d.0 (relation_of self.now c.1 d.1) (relation_of self.now d.1 c.1) }
     {
+        let (s, t) = (c.1, d.1);
         match (c.0, d.0) {
-            (Capability::In | Capability::Both, Capability::In) if self.relates((c.1, d.1)) => true,
-            (Capability::Out | Capability::Both, Capability::Out) if self.relates((d.1, c.1)) =>
+            (Capability::In | Capability::Both, Capability::In) if self.relates((s, t)) => true,
+            (Capability::Out | Capability::Both, Capability::Out) if self.relates((t, s)) => true,
+            (Capability::Both, Capability::Both) if self.relates((s, t)) && self.relates((t, s)) =>
                 true,
-            (Capability::Both, Capability::Both)
-                if self.relates((c.1, d.1)) && self.relates((d.1, c.1)) => true,
             _ => false,
         }
     }
