@@ -71,10 +71,27 @@ fn join<A: FormSource + Drop, B: FormSource + Drop>(
         (λ s. (s.first ≡ first) × (s.second ≡ second) × (length (A.FormSource.rows first) + length (B.FormSource.rows second) ≤ max_rows))
         (λ e. (e ≡ JoinFault.TooManyRows) × (max_rows < length (A.FormSource.rows first) + length (B.FormSource.rows second))) }
 {
-    if first.count() + second.count() > MAX_ROWS {
-        return Err(JoinFault::TooManyRows);
+    if first.count() + second.count() <= MAX_ROWS {
+        Ok(Joined { first, second })
+    } else {
+        Err(JoinFault::TooManyRows)
     }
-    Ok(Joined { first, second })
+}
+
+// Layer 6: a row of the table of a side.
+fn row_of<S: FormSource>(side: Side, source: &S, row: u64) -> Result<u8, SideFault<RowFault>>
+    ensures { MatchResult result
+        (λ found. (row < length (S.FormSource.rows source.now)) × (found ≡ row))
+        (λ e. (e.side ≡ side) × (e.fault ≡ RowFault.Outside) × (length (S.FormSource.rows source.now) ≤ row)) }
+{
+    if row < source.count() as u64 {
+        Ok(row as u8)
+    } else {
+        Err(SideFault {
+            side,
+            fault: RowFault::Outside,
+        })
+    }
 }
 
 // Layer 6: a row of the first and a row of the second, as rows of the joined table.
@@ -86,20 +103,10 @@ fn pair_of<A: FormSource, B: FormSource>(
         (λ found. (pair.0 < length (A.FormSource.rows joined.now.first)) × (pair.1 < length (B.FormSource.rows joined.now.second)) × (found.0 ≡ pair.0) × (found.1 ≡ length (A.FormSource.rows joined.now.first) + pair.1))
         (λ e. (e.fault ≡ RowFault.Outside) × OutsideOf (length (A.FormSource.rows joined.now.first)) (length (B.FormSource.rows joined.now.second)) pair.0 pair.1 e.side) }
 {
-    let own = joined.first.count() as u64;
-    if pair.0 >= own {
-        return Err(SideFault {
-            side: Side::Ours,
-            fault: RowFault::Outside,
-        });
-    }
-    if pair.1 >= joined.second.count() as u64 {
-        return Err(SideFault {
-            side: Side::Theirs,
-            fault: RowFault::Outside,
-        });
-    }
-    Ok((pair.0 as u8, (own + pair.1) as u8))
+    let own = joined.first.count();
+    let p = row_of(Side::Ours, &joined.first, pair.0)?;
+    let q = row_of(Side::Theirs, &joined.second, pair.1)?;
+    Ok((p, own as u8 + q))
 }
 
 // Shows an order that fits the first row and not the second, of a pair that an open book holds as no, and writes it as
