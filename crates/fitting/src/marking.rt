@@ -6,6 +6,7 @@ ghost use Rattle.documents.specs.Limits.{max_nodes};
 ghost use Rattle.documents.specs.Nodes.{SoundOver};
 ghost use Rattle.relation.specs.Cells.{cell};
 ghost use Rattle.schema.specs.Fitting.{FitsIsByBelow};
+ghost use Rattle.schema.specs.Rules.{OffersVoid};
 ghost use Rattle.verdicts.specs.Ready.{in_row};
 ghost use Rattle.fitting.specs.Faults.{fit_refusal};
 ghost use Rattle.fitting.specs.Fittable.{row_words, Fittable, Unfit};
@@ -32,12 +33,13 @@ fn write_marks(marks: &mut [u64], node: usize, rows: &[u64; ROW_WORDS])
 }
 
 impl<'a> Fitting<'a> {
-    // The rows that a node fits, where the marks tell it of lower nodes.
-    fn node_rows(&self, marks: &[u64], node: Node) -> [u64; ROW_WORDS]
+    // The rows that a node fits, where the marks tell it of lower nodes, and the rows that offer a void row are given: a table has many void nodes, and they all fit these.
+    fn node_rows(&self, voids: [u64; ROW_WORDS], marks: &[u64], node: Node) -> [u64; ROW_WORDS]
+        requires { (r : ℕ) → Decides (member voids r) (OffersVoid (rows_fitted self.now) r) }
         ensures { (r : ℕ) → Decides (member result r) (FitsNode (rows_fitted self.now) (Paired self.now) (in_row marks.now) node r) }
     {
         match node {
-            Node::Void => self.void_rows(),
+            Node::Void => voids,
             Node::Reference(row) => self.channel_rows(&self.paired_rows(row)),
             Node::Element {
                 label,
@@ -54,8 +56,9 @@ impl<'a> Fitting<'a> {
         requires room { length marks.old ≡ length nodes.now * row_words }
         ensures { Marked (rows_fitted self.now) (Paired self.now) nodes.now marks.new }
     {
+        let voids = self.void_rows();
         for (i, node) in nodes.iter().enumerate() {
-            let rows = self.node_rows(marks, *node);
+            let rows = self.node_rows(voids, marks, *node);
             write_marks(marks, i, &rows);
         }
     }
