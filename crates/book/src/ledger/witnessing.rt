@@ -32,6 +32,10 @@ impl Ledger {
         ensures { Done self.now (show pair.0 pair.1 nodes.old) (shown (outcome result) nodes.new) self.now }
     {
         self.held_as_no(pair)?;
+        // The verdict is kept, so that a buffer that is too short is refused without deciding the pair again.
+        if nodes.len() < showing::most_nodes(&self.prepared) {
+            return Err(BookFault::NotShown(ShowFault::FewNodes));
+        }
         Ok(showing::show(&self.prepared, pair, nodes)?)
     }
 }
