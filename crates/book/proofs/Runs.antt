@@ -167,6 +167,9 @@ module _ (rows : List Row) (calls : List Call) (answers : List Answer) (long : l
       let (n, s, then) = still_counts rows (HeldBy rows (take k calls)) c x (take k answers) m (each k c x e f) r count in
       (n, rw (take_more answers k f) s, rw (take_more calls k e) (counts_same {k = n} _ _ (held_more rows (take k calls) c) (held_before rows (take k calls) c) then))
 
+  held_after_ask : (k p q : ℕ) → slice_get calls k ≡ Some (ask p q) → InTable rows p q → HeldBy rows (take (k + 1) calls) p q
+  held_after_ask k p q e i = subst (λ t. HeldBy rows t p q) (sym (rw add-one (take_more calls k e))) (held_more rows (take k calls) (ask p q) p q (tt, inl (i, on_itself)))
+
   asked_held : (k p q : ℕ) (v : Verdict) (new : ℕ) (answer : Answer) → slice_get calls k ≡ Some (ask p q) → slice_get answers k ≡ Some (asked (gives (v, new))) →
       slice_get calls (k + 1) ≡ Some (look_up p q) → slice_get answers (k + 1) ≡ Some answer → answer ≡ looked_up (gives (Some v))
   asked_held k p q v new answer e f g h = ⊎_elim
@@ -174,13 +177,10 @@ module _ (rows : List Row) (calls : List Call) (answers : List Answer) (long : l
       (λ out. let (o, is, a) = each k (ask p q) _ e f in let refused = a.outside out in never (cc))
       (in_or_out rows p q)
     where
-      here : InTable rows p q → HeldBy rows (take (k + 1) calls) p q
-      here i = subst (λ t. HeldBy rows t p q) (sym (rw add-one (take_more calls k e))) (held_more rows (take k calls) (ask p q) p q (tt, inl (i, on_itself)))
-
       told : InTable rows p q → Answered rows (HeldBy rows (take k calls)) (ask p q) (asked (gives (v, new))) → Answered rows (HeldBy rows (take (k + 1) calls)) (look_up p q) answer → answer ≡ looked_up (gives (Some v))
       told i (o, is, a) (o₂, is₂, b) =
           let (w, new', gave, verdict, _) = a.inside i in
-          let (w₂, gave₂, verdict₂) = b.settled i (here i) in
+          let (w₂, gave₂, verdict₂) = b.settled i (held_after_ask k p q e i) in
           let pair : ◌≡◌ {A = Verdict × ℕ} (v, new) (w, new') = cc in
           let same : w₂ ≡ w = grind (arith, verdict₂.included, verdict.included) in
           is₂ ∙ ap looked_up gave₂ ∙ ap (λ x. looked_up (gives (Some x))) (same ∙ sym (ap (λ x. x.0) pair))
@@ -208,6 +208,7 @@ module _ (rows : List Row) (calls : List Call) (answers : List Answer) (long : l
   open_run = record {
     long = long;
     each = each;
+    held_after_ask = held_after_ask;
     asked_held = asked_held;
     handed_taken = handed_taken;
     adds_up = λ k low. let (m, r, count) = total k low in (m, r, count, counts_most (length rows) m (HeldBy rows (take k calls)) count);

@@ -60,6 +60,8 @@ pub record OpenRun (rows : List Row) (calls : List Call) (answers : List Answer)
   pub long : length answers ≡ length calls
   -- each answer is the one that the definitions give for the pairs held after the calls before it
   pub each : (k : ℕ) (call : Call) (answer : Answer) → slice_get calls k ≡ Some call → slice_get answers k ≡ Some answer → Answered rows (HeldBy rows (take k calls)) call answer
+  -- an asked pair is held just after
+  pub held_after_ask : (k p q : ℕ) → slice_get calls k ≡ Some (ask p q) → InTable rows p q → HeldBy rows (take (k + 1) calls) p q
   -- a look-up just after an ask tells the verdict that was asked
   pub asked_held : (k p q : ℕ) (v : Verdict) (new : ℕ) (answer : Answer) → slice_get calls k ≡ Some (ask p q) → slice_get answers k ≡ Some (asked (gives (v, new))) →
       slice_get calls (k + 1) ≡ Some (look_up p q) → slice_get answers (k + 1) ≡ Some answer → answer ≡ looked_up (gives (Some v))
