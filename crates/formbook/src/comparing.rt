@@ -111,18 +111,19 @@ impl<'a> Comparison<'a> {
         }
     }
 
-    // The answer for the tables in their files. Where neither can be read, it is said of both.
+    // The answer for the tables in their files. Where ours cannot be read, that is said before theirs is opened; where neither can, it is said of both.
     fn ask(&self, rt: &HostRuntime) -> Result<(), Fault> {
-        let ours = opened(rt, self.ours, fs::read(rt, self.ours));
-        let theirs = opened(rt, self.theirs, fs::read(rt, self.theirs));
-        match (ours, theirs) {
-            (Ok(ours), Ok(theirs)) => self.answer(rt, &ours, &theirs),
-            (Ok(_ours), Err(fault)) => Err(fault),
-            (Err(fault), Ok(_theirs)) => Err(fault),
-            (Err(first), Err(second)) => {
-                first.say(rt)?;
-                Err(second)
+        let ours = match opened(rt, self.ours, fs::read(rt, self.ours)) {
+            Ok(ours) => Some(ours),
+            Err(fault) => {
+                fault.say(rt)?;
+                None
             }
+        };
+        let theirs = opened(rt, self.theirs, fs::read(rt, self.theirs))?;
+        match ours {
+            Some(ours) => self.answer(rt, &ours, &theirs),
+            None => Err(Fault::Said),
         }
     }
 }

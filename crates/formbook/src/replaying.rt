@@ -2,6 +2,8 @@
 ghost use Rattle.std.specs.Prelude.{◌≡◌, length, map, IfOk, MatchResult};
 ghost use Rattle.std.specs.Str.{trim};
 ghost use Rattle.texts.specs.Calls.{text_rows};
+ghost use Rattle.replay.specs.Exchanges.{call_of};
+ghost use Rattle.formbook.specs.Spelling.{LineSpells, SpellsNone};
 ghost use Rattle.formbook.specs.Scripts.{is_call_line, call_lines, LinesSpell, Hinders, IsRun};
 
 use super::checking::{load, opened};
@@ -49,19 +51,27 @@ struct Mistake<'a> {
     unread: Unread,
 }
 
-// The calls of a script and the answers to them, place by place.
+// The answers to the calls of a script, in their order.
 #[derive(Drop)]
 struct Played {
-    calls: Vec<Call>,
     answers: Vec<Answer>,
 }
 
-// A line of a script, the call that it spells, and the answer to it.
+// A line of a script, and the answer to the call that it spells.
 #[derive(Clone, Copy)]
 struct Entry<'a> {
     line: &'a str,
-    call: &'a Call,
     answer: &'a Answer,
+}
+
+impl<'a> Entry<'a> {
+    // The call that the line spells. Performing takes the calls, so the line is read once more, and it is read only when its
+    // call is told: the buffers of all calls at once would take as much memory again as the answers.
+    fn call(&self, reader: &Reader) -> Result<Call, Unread>
+        ensures { MatchResult result (λ call. LineSpells reader.now.count self.now.line.now (call_of call)) (SpellsNone reader.now.count self.now.line.now) }
+    {
+        reader.read_call(self.line)
+    }
 }
 
 // Why a script is not performed.
@@ -127,7 +137,7 @@ fn spelled<'a>(reader: &Reader, lines: &[Line<'a>]) -> Result<Vec<Call>, Unplaye
     }
 }
 
-// Performs the calls that lines spell on a book over a table. Performing takes the calls, so the lines are read once more.
+// Performs the calls that lines spell on a book over a table.
 fn replayed<'a>(heap: Global, table: RowText, lines: &[Line<'a>]) -> Result<Played, Unplayed<'a>>
     ensures { MatchResult result (IsRun (text_rows table) lines.now) (Hinders (length (text_rows table)) lines.now) }
 {
@@ -139,30 +149,23 @@ fn replayed<'a>(heap: Global, table: RowText, lines: &[Line<'a>]) -> Result<Play
     let Ok((_book, answers)) = replay(table, calls, room) else {
         unreachable!()
     };
-    Ok(Played {
-        calls: spelled(&reader, lines)?,
-        answers,
-    })
+    Ok(Played { answers })
 }
 
-// One entry for each line, with the call and the answer at its place.
+// One entry for each line, with the answer at its place.
 fn entries<'a>(
     heap: Global,
     lines: &[Line<'a>],
-    calls: &'a [Call],
     answers: &'a [Answer],
 ) -> Result<Vec<Entry<'a>>, AllocError>
-    requires calls { length calls.now ≡ length lines.now }
     requires answers { length answers.now ≡ length lines.now }
     ensures lines { IfOk result (λ v. map (λ e. e.line.now) v.items ≡ map (λ line. line.text.now) lines.now) }
-    ensures calls { IfOk result (λ v. map (λ e. e.call.now) v.items ≡ calls.now) }
     ensures answers { IfOk result (λ v. map (λ e. e.answer.now) v.items ≡ answers.now) }
 {
     let mut entries = Vec::new(heap);
     for (k, line) in lines.iter().enumerate() {
         entries.push(Entry {
             line: line.text,
-            call: &calls[k],
             answer: &answers[k],
         })?;
     }
@@ -185,13 +188,21 @@ fn print_mistake(rt: &HostRuntime, path: &str, mistake: &Mistake) -> anyhow::Res
     Ok(())
 }
 
+// A line and its answer. The line was performed, so that only memory can be wanting to read it once more.
+fn print_entry(rt: &HostRuntime, reader: &Reader, entry: &Entry) -> Result<(), Fault> {
+    let line = entry.line;
+    println!(rt; "{line}")?;
+    let Ok(call) = entry.call(reader) else {
+        return Err(Fault::from(AllocError));
+    };
+    print_answer(rt, &call, entry.answer, reader.count as usize)
+}
+
 // Each line and its answer.
-fn print_entries(rt: &HostRuntime, entries: &[Entry], count: usize) -> Result<(), Fault> {
+fn print_entries(rt: &HostRuntime, reader: &Reader, entries: &[Entry]) -> Result<(), Fault> {
     let mut all = Ok(());
     for entry in entries {
-        let line = entry.line;
-        println!(rt; "{line}")?;
-        if let Err(fault) = print_answer(rt, entry.call, entry.answer, count) {
+        if let Err(fault) = print_entry(rt, reader, entry) {
             fault.say(rt)?;
             all = Err(Fault::Said);
         }
@@ -203,12 +214,13 @@ fn print_entries(rt: &HostRuntime, entries: &[Entry], count: usize) -> Result<()
 pub(crate) fn replay_script(rt: &HostRuntime, table: &str, path: &str) -> Result<(), Fault> {
     let table = load(rt, table)?;
     let text = opened(rt, path, fs::read_to_string(rt, path))?;
-    let lines = lines_of(rt.alloc(), text.as_str())?;
-    let count = table.count();
-    match replayed(rt.alloc(), table, &lines) {
+    let heap = rt.alloc();
+    let lines = lines_of(heap, text.as_str())?;
+    let count = table.count() as u8;
+    match replayed(heap, table, &lines) {
         Ok(replayed) => {
-            let entries = entries(rt.alloc(), &lines, &replayed.calls, &replayed.answers)?;
-            print_entries(rt, &entries, count)
+            let entries = entries(heap, &lines, &replayed.answers)?;
+            print_entries(rt, &Reader { heap, count }, &entries)
         }
         Err(Unplayed::Mistakes(mistakes)) => {
             for mistake in &mistakes {

@@ -4,6 +4,5 @@ use Rattle.formbook.proofs.replaying.entries.Given as goal
 abbrev pub invariant-loop-k : goal.invariant-loop-k
 invariant-loop-k l = record {
   lines : map (λ e. e.line.now) l.entries.items ≡ map (λ line. line.text.now) (take l.k l.lines);
-  calls : map (λ e. e.call.now) l.entries.items ≡ take l.k l.calls;
   answers : map (λ e. e.answer.now) l.entries.items ≡ take l.k l.answers;
 }

@@ -19,7 +19,6 @@ returns c =
     let over = subst (λ s. ∥ Over (text_rows s) book.pages ∥₁) done.1 book.over in
     let spelled = subst (λ n. LinesSpell n lines calls) c.count-count.ensures c.in_ok-calls.ensures in
     record {
-      spelled = subst (λ n. LinesSpell n lines c.in_ok-spelled.field-0.items) c.count-count.ensures c.in_ok-spelled.ensures;
       long = sym (length-map answers answer_of) ∙ as_many rows book.pages _ _ over done.2.law ∙ length-map calls call_of ∙ AllZip-long _ _ _ spelled;
       answered = (calls, spelled, done.2.law);
     }
