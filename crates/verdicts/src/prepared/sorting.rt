@@ -37,7 +37,8 @@ fn rows_of_sort<F: Fn(Option<Row>) -> bool>(
 {
     let mut rows = [0; ROW_WORDS];
     for o in 0..MAX_ROWS {
-        if analysis.is_inhabited(o as u8) && passes(table.row(o as u8)) {
+        let is_inhabited = analysis.is_inhabited(o as u8);
+        if is_inhabited && passes(table.row(o as u8)) {
             sets::put(&mut rows, o);
         }
     }

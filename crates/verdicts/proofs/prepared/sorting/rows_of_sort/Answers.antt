@@ -25,7 +25,7 @@ loop-o-preserved g c =
         ap length w.rows-is ∙ w.put.auto.words ∙ long,
         subst (λ cells. Picked Hit Miss cells (o + 1)) (sym w.rows-is)
             (picked_put Hit Miss c.loop-o.rows w.put.new.words o so_far
-            (and_from (inhabited o) (g.test (slice_get rows o)) (sym c.is_inhabited.ensures ∙ w.if-is_inhabited.true)
+            (and_from (inhabited o) (g.test (slice_get rows o)) (sym c.is_inhabited-is_inhabited.ensures ∙ w.if-is_inhabited.true)
             (ap g.test (sym w.row.ensures) ∙ sym (c.requires.1.1 w.row.result w.passes.result w.passes.ensures) ∙ w.if-passes.true))
             (w.put.ensures.within (omega (arith, long)) (omega arith))),
       )
@@ -34,7 +34,7 @@ loop-o-preserved g c =
         subst (λ cells. Picked Hit Miss cells (o + 1)) (sym w.rows-is) (picked_past Hit Miss c.loop-o.rows o so_far (elim w.else-is_inhabited.branch [
           | else-is_inhabited-via-then-is_inhabited+else-passes v ↦
               and_right (inhabited o) (g.test (slice_get rows o)) (ap g.test (sym v.row.ensures) ∙ sym (c.requires.1.1 v.row.result v.passes.result v.passes.ensures) ∙ v.if-passes.false)
-          | else-is_inhabited-via-else-is_inhabited v ↦ and_left (inhabited o) (g.test (slice_get rows o)) (sym c.is_inhabited.ensures ∙ v.if-is_inhabited.false)
+          | else-is_inhabited-via-else-is_inhabited v ↦ and_left (inhabited o) (g.test (slice_get rows o)) (sym c.is_inhabited-is_inhabited.ensures ∙ v.if-is_inhabited.false)
         ])),
       )
     ]
