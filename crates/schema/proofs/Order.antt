@@ -221,6 +221,14 @@ reflexive rows determined p = (eqb, closed, eq-eqb p p refl)
 pub transitive : BelowIsTransitive
 transitive rows bounded p q r h g f a b = (two_steps rows bounded, two_steps_closed rows bounded, two_steps_in rows bounded p q r g ((below_decides rows bounded p q h g).1 a) ((below_decides rows bounded q r g f).1 b))
 
+-- within any relation between rows there is a largest one in which each pair keeps the rules
+pub largest_exists : (rows : List Row) → Bounded rows → (C : Relation) → OfRows rows C → (S : Relation) × LargestWithin rows C S
+largest_exists rows bounded C of_rows = (largest_within rows bounded C of_rows, is_largest_within rows bounded C of_rows)
+
+-- a relation decides `Below` for all rows, and each of its pairs keeps the rules
+pub closed_and_decided : (rows : List Row) → Bounded rows → (B : Relation) × Closed rows B × ((p q : ℕ) → p < length rows → q < length rows → Decides (B p q) (Below rows p q))
+closed_and_decided rows bounded = (below rows bounded, below_closed rows bounded, below_decides rows bounded)
+
 -- the rules can be decided, for any relation
 pub rules_are_decided : (rows : List Row) → Bounded rows → (R : Relation) (p q : ℕ) →
     (Offers rows p q ⊎ (Offers rows p q → ⊥)) × (Inhabited rows p ⊎ (Inhabited rows p → ⊥)) × (Keeps rows R p q ⊎ (Keeps rows R p q → ⊥))
