@@ -33,7 +33,7 @@ fn write_marks(marks: &mut [u64], node: usize, rows: &[u64; ROW_WORDS])
 }
 
 impl<'a> Fitting<'a> {
-    // The rows that a node fits, where the marks tell it of lower nodes, and the rows that offer a void row are given: a table has many void nodes, and they all fit these.
+    // The rows that a node fits, where the marks tell it of lower nodes, and the rows that offer a void row are given: a table may have many void nodes, and they all fit these.
     fn node_rows(&self, voids: [u64; ROW_WORDS], marks: &[u64], node: Node) -> [u64; ROW_WORDS]
         requires { (r : ℕ) → Decides (member voids r) (OffersVoid (rows_fitted self.now) r) }
         ensures { (r : ℕ) → Decides (member result r) (FitsNode (rows_fitted self.now) (Paired self.now) (in_row marks.now) node r) }

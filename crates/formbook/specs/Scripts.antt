@@ -38,7 +38,7 @@ abbrev pub Hinders : ℕ → List Line → Unplayed → Type 0
 Hinders n lines (Mistakes v) = (0 < length v.items) × AreMistakes n lines v.items
 Hinders n lines NoMemory = Unit {0}
 
--- The answers are those of a book over the rows, from its making on, to the calls that the lines spell; there are as many as lines.
+-- The answers are those of a book over the rows, from its making on, to calls that the lines spell; there are as many as lines.
 pub record IsRun (rows : List Row) (lines : List Line) (played : Played) : Type 0 where
   pub long : length played.answers.items ≡ length lines
   pub answered : (calls : List Call) × LinesSpell (length rows) lines calls × Law rows (map call_of calls) (map answer_of played.answers.items)

@@ -1,7 +1,7 @@
 // Sets of numbers, kept as bits of 64-bit words.
 #![tactic(auto)]
 
-ghost use Rattle.std.specs.Prelude.{◌≡◌, ℕ, ◌-◌, ◌*◌, ◌^◌, ◌<◌, ◌≤◌, min, true, false, not, ◌&&◌, ◌||◌, ◌⊎◌, length, if◌then◌else◌, ◌==◌, count_ones, nat_eq, nat_lt, MatchOption, Decides, bit_and, slice_index, ◌≢◌};
+ghost use Rattle.std.specs.Prelude.{◌≡◌, ℕ, ◌-◌, ◌*◌, ◌^◌, ◌<◌, ◌≤◌, min, true, false, not, ◌&&◌, ◌||◌, ◌⊎◌, length, if◌then◌else◌, ◌==◌, count_ones, nat_eq, nat_lt, Decides, bit_and, slice_index, ◌≢◌};
 ghost use Rattle.std.specs.Iterator.{at_most};
 ghost use Rattle.sets.specs.Sets.{word, top, member, tally, Next, GoesOn};
 
@@ -64,13 +64,6 @@ pub fn first<const W: usize>(n: usize) -> [u64; W]
     words
 }
 
-// The first word that has a member.
-fn filled(words: &[u64]) -> Option<usize>
-    ensures { MatchOption result ((k : ℕ) → k < length words.now → slice_index words.now k ≡ 0) (λ i. (i < length words.now) × (slice_index words.now i ≢ 0) × ((k : ℕ) → k < i → slice_index words.now k ≡ 0)) }
-{
-    words.iter().position(|word| *word != 0)
-}
-
 /// The lowest member not before the start, if there is one (`Next`). A word without members costs one step.
 pub fn next(words: &[u64], start: usize) -> Option<usize>
     ensures { Next (member words.now) start result }
@@ -84,8 +77,12 @@ pub fn next(words: &[u64], start: usize) -> Option<usize>
         return Some(start + rest.trailing_zeros() as usize);
     }
     let end = words.len().min(MOST);
-    let i = first + 1 + filled(&words[first + 1..end])?;
-    Some(i * WORD + words[i].trailing_zeros() as usize)
+    for i in first + 1..end {
+        if words[i] != 0 {
+            return Some(i * WORD + words[i].trailing_zeros() as usize);
+        }
+    }
+    None
 }
 
 /// How many members the set has.
